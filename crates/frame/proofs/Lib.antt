@@ -1,0 +1,5 @@
+pub mod Bits
+pub mod Carried
+pub mod Bodies
+pub mod Stuffing
+pub mod Short

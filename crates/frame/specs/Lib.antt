@@ -1,0 +1,4 @@
+pub mod Frame
+pub mod Head
+pub mod Kinds
+pub mod Wire
