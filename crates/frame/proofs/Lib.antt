@@ -1,5 +1,8 @@
 pub mod Bits
-pub mod Carried
 pub mod Bodies
-pub mod Stuffing
+pub mod Carried
+pub mod ListLaws
+pub mod ListLeft
+pub mod ListSeen
 pub mod Short
+pub mod Stuffing

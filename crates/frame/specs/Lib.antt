@@ -1,4 +1,5 @@
 pub mod Frame
 pub mod Head
 pub mod Kinds
+pub mod List
 pub mod Wire

@@ -1,4 +1,4 @@
-// Channels, listed values and the channel byte. The types stand alone, since the definitions in specs/ name them.
+// Channels and listed values. The types stand alone, since the definitions in specs/ name them.
 ghost use mathlib.Core.Path.{_≡_};
 ghost use Prim.Native.Nat.{_+_, _<_, _≤_};
 ghost use Rattle.std.specs.Options.{Cases};
@@ -26,9 +26,14 @@ impl Channel {
     pub fn new(number: u8) -> Option<Channel>
         ensures { λ r. ⌜ Cases r (63 < number) (λ c. (c .number ≡ number) × (number ≤ 63)) ⌝ }
     {
-        if number <= LAST_CHANNEL { Some(Channel { number }) } else { None }
+        if number <= LAST_CHANNEL {
+            Some(Channel { number })
+        } else {
+            None
+        }
     }
 
+    /// Its number, 0 to 63.
     pub fn number(self) -> u8
         ensures value { λ r. ⌜ r ≡ self .number ⌝ }
         ensures bound { λ r. ⌜ r ≤ 63 ⌝ }
@@ -41,25 +46,34 @@ impl Channel {
         requires { ⌜ place < 64 ⌝ }
         ensures { λ r. ⌜ r .number ≡ place ⌝ }
     {
-        Channel { number: place as u8 }
+        Channel {
+            number: place as u8,
+        }
     }
 
     /// How a poll list names the channel.
     pub(crate) fn listed(self) -> Listed
         ensures { λ r. ⌜ r .value ≡ self .number + 1 ⌝ }
     {
-        Listed { value: self.number + 1 }
+        Listed {
+            value: self.number + 1,
+        }
     }
 }
 
 impl Listed {
     /// The listed value that a byte of a poll list is; none outside 1 to 64.
     pub(crate) fn new(value: u8) -> Option<Listed>
-        ensures { λ r. ⌜ Cases r ((1 ≤ value → value ≤ 64 → ⊥)) (λ l. (l .value ≡ value) × (1 ≤ value) × (value ≤ 64)) ⌝ }
+        ensures { λ r. ⌜ Cases r (1 ≤ value → value ≤ 64 → ⊥) (λ l. (l .value ≡ value) × (1 ≤ value) × (value ≤ 64)) ⌝ }
     {
-        if value >= 1 && value <= LAST_CHANNEL + 1 { Some(Listed { value }) } else { None }
+        if value >= 1 && value <= LAST_CHANNEL + 1 {
+            Some(Listed { value })
+        } else {
+            None
+        }
     }
 
+    /// The byte of it.
     pub(crate) fn value(self) -> u8
         ensures { λ r. ⌜ r ≡ self .value ⌝ }
     {
@@ -70,6 +84,8 @@ impl Listed {
     pub(crate) fn channel(self) -> Channel
         ensures { λ r. ⌜ r .number + 1 ≡ self .value ⌝ }
     {
-        Channel { number: self.value - 1 }
+        Channel {
+            number: self.value - 1,
+        }
     }
 }

@@ -1,0 +1,40 @@
+-- What each state of a reader leaves room for.
+use Prim.Native.Nat.{ℕ, _+_}
+use Rattle.reader.specs.declared.state.Part.{Part}
+use Rattle.reader.specs.declared.state.Part.the-variants.{Code, Count, Block, Text, Low, High}
+use Rattle.reader.specs.declared.state.State.{State}
+use Rattle.reader.specs.declared.state.State.the-variants.{Waiting, Marked, Started, Inside, Escaped, Passed}
+
+-- how many bytes of a body may come from this part on
+abbrev pub roomOf : Part → ℕ
+roomOf Code = 258
+roomOf Count = 257
+roomOf (Block n) = n
+roomOf Text = 2
+roomOf Low = 0
+roomOf (High low) = 0
+
+abbrev pub room : State → ℕ
+room Waiting = 259
+room Marked = 259
+room Started = 259
+room (Inside p) = roomOf p
+room (Escaped p) = roomOf p
+room Passed = 0
+
+-- the most raw bytes of a frame that were heard and are none of its body yet
+abbrev pub outsideOf : Part → ℕ
+outsideOf Code = 0
+outsideOf Count = 0
+outsideOf (Block n) = 0
+outsideOf Text = 0
+outsideOf Low = 0
+outsideOf (High low) = 2
+
+abbrev pub outside : State → ℕ
+outside Waiting = 0
+outside Marked = 0
+outside Started = 0
+outside (Inside p) = outsideOf p
+outside (Escaped p) = outsideOf p + 1
+outside Passed = 0

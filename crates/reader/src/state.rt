@@ -1,0 +1,40 @@
+// Where a reader stands between two bytes.
+
+/// What the next byte of a frame is, after its channel byte.
+#[derive(Clone, Copy, PartialEq, Eq, Debug)]
+pub enum Part {
+    Code,
+    Count,
+    /// A byte of a block, of which so many are to come.
+    Block(u16),
+    /// A byte of a text, or its 00.
+    Text,
+    /// The low byte of the checksum.
+    Low,
+    /// The high byte of the checksum; the low one is held here.
+    High(u8),
+}
+
+#[derive(Clone, Copy, PartialEq, Eq, Debug)]
+pub enum State {
+    /// Between frames.
+    Waiting,
+    /// After one AA between frames.
+    Marked,
+    /// After AA AA, and any more AA: the channel byte is next.
+    Started,
+    /// In a frame.
+    Inside(Part),
+    /// In a frame, after an AA that is not yet a byte of it.
+    Escaped(Part),
+    /// Between frames, directly after a frame that passed.
+    Passed,
+}
+
+/// What a byte brought.
+#[derive(Clone, Copy, PartialEq, Eq, Debug)]
+pub enum Heard {
+    More,
+    /// A frame passed with this byte; the reader shows its body until the next.
+    Frame,
+}
