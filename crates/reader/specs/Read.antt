@@ -12,7 +12,6 @@ use Rattle.std.specs.declared.result.Result.the-variants.{Ok, Err}
 use Rattle.fcs.specs.Fcs.{extended, registerOf, residue}
 use Rattle.frame.specs.declared.form.Direction.{Direction}
 use Rattle.frame.specs.declared.form.Form.{Form}
-use Rattle.frame.specs.declared.form.Form.the-variants as form
 use Rattle.frame.specs.Frame.{formOf, codeIn}
 use Rattle.reader.specs.declared.fault.Layer.the-variants as layer
 use Rattle.reader.specs.declared.fault.Reason.{Reason}
@@ -25,6 +24,7 @@ use Rattle.reader.specs.declared.state.State.the-variants.{Waiting, Marked, St
 use Rattle.reader.specs.declared.state.Heard.{Heard}
 use Rattle.reader.specs.declared.state.Heard.the-variants.{More, Frame}
 use Rattle.reader.specs.declared.reader.Reader.{Reader}
+use Rattle.reader.specs.State.{partOf}
 
 -- a reader by what it knows: its direction, where it stands, the bytes of the body so far, and the raw bytes since the channel byte
 pub record Meaning : Type 0 where
@@ -42,17 +42,17 @@ meaning r = at (r .direction) (r .state) (take (r .len) (r .body)) (r .raw)
 abbrev pub fresh : Direction → Meaning
 fresh d = at d Waiting [] 0
 
--- the body that was passed with the last byte
+-- the body that passed with the last byte
+abbrev pub passedAt : State → List ℕ → Option (List ℕ)
+passedAt Waiting bs = None
+passedAt Marked bs = None
+passedAt Started bs = None
+passedAt (Inside p) bs = None
+passedAt (Escaped p) bs = None
+passedAt Passed bs = Some bs
+
 abbrev pub passed : Meaning → Option (List ℕ)
 passed m = passedAt (m .state) (m .bytes)
-  where
-    abbrev passedAt : State → List ℕ → Option (List ℕ)
-    passedAt Waiting bs = None
-    passedAt Marked bs = None
-    passedAt Started bs = None
-    passedAt (Inside p) bs = None
-    passedAt (Escaped p) bs = None
-    passedAt Passed bs = Some bs
 
 -- the reader after a byte, and its answer
 pub record Next : Type 0 where
@@ -83,9 +83,7 @@ withChannel d b = cond (isChannel b) (inside d Code (b ∷ []) 1) (drops d BadCh
 -- what comes after a code byte, by the form of its frames
 abbrev pub withCode : Direction → Option Form → List ℕ → ℕ → Next
 withCode d None bs n = drops d UnknownCode n
-withCode d (Some form.Bare) bs n = inside d Low bs n
-withCode d (Some form.Text) bs n = inside d Text bs n
-withCode d (Some form.Counted) bs n = inside d Count bs n
+withCode d (Some m) bs n = inside d (partOf m) bs n
 
 -- one byte more of a frame, which is the n-th raw one
 abbrev pub withByte : Direction → Part → List ℕ → ℕ → ℕ → Next

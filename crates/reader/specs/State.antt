@@ -1,15 +1,23 @@
--- What each state of a reader leaves room for.
-use Prim.Native.Nat.{ℕ, _+_}
+-- The parts of a frame, and what each state of a reader leaves room for.
+use Prim.Native.Nat.{ℕ, _+_, max}
+use Rattle.frame.specs.declared.form.Form.{Form}
+use Rattle.frame.specs.declared.form.Form.the-variants as form
 use Rattle.reader.specs.declared.state.Part.{Part}
 use Rattle.reader.specs.declared.state.Part.the-variants.{Code, Count, Block, Text, Low, High}
 use Rattle.reader.specs.declared.state.State.{State}
 use Rattle.reader.specs.declared.state.State.the-variants.{Waiting, Marked, Started, Inside, Escaped, Passed}
 
--- how many bytes of a body may come from this part on
+-- what follows a code byte, by the form of its frames
+abbrev pub partOf : Form → Part
+partOf form.Bare = Low
+partOf form.Text = Text
+partOf form.Counted = Count
+
+-- how many bytes of a body may come from this part on; a block that is read has at least one to come
 abbrev pub roomOf : Part → ℕ
 roomOf Code = 258
 roomOf Count = 257
-roomOf (Block n) = n
+roomOf (Block n) = max n 1
 roomOf Text = 2
 roomOf Low = 0
 roomOf (High low) = 0

@@ -1,4 +1,8 @@
 // Where a reader stands between two bytes.
+ghost use mathlib.Core.Path.{_≡_};
+ghost use Prim.Native.Nat.{_≤_};
+ghost use Rattle.reader.specs.State.{partOf, roomOf, outsideOf};
+use frame::form::Form;
 
 /// What the next byte of a frame is, after its channel byte.
 #[derive(Clone, Copy, PartialEq, Eq, Debug)]
@@ -37,4 +41,19 @@ pub enum Heard {
     More,
     /// A frame passed with this byte; the reader shows its body until the next.
     Frame,
+}
+
+impl Part {
+    // What follows a code byte.
+    pub(crate) fn after_code(form: Form) -> Part
+        ensures value { λ r. ⌜ r ≡ partOf form ⌝ }
+        ensures room { λ r. ⌜ roomOf r ≤ 257 ⌝ }
+        ensures outside { λ r. ⌜ outsideOf r ≡ 0 ⌝ }
+    {
+        match form {
+            Form::Bare => Part::Low,
+            Form::Text => Part::Text,
+            Form::Counted => Part::Count,
+        }
+    }
 }

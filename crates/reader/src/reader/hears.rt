@@ -3,9 +3,9 @@ ghost use mathlib.Core.Path.{_≡_};
 ghost use mathlib.Core.List.{[], _∷_, _++_};
 ghost use Prim.Native.Nat.{ℕ, _+_, _*_, _<_, _≤_};
 ghost use Rattle.std.specs.Options.{mapped};
-ghost use Rattle.frame.specs.Frame.{formOf};
-ghost use Rattle.reader.specs.State.{room, roomOf, outside, outsideOf};
-ghost use Rattle.reader.specs.Read.{meaning, at, fresh, passed, hears, withChannel, withCode, withByte, drops};
+ghost use Rattle.std.specs.declared.result.Result.the-variants.{Ok};
+ghost use Rattle.reader.specs.State.{room, roomOf, outsideOf};
+ghost use Rattle.reader.specs.Read.{meaning, at, fresh, passed, hears, withChannel, withByte, faulty};
 use super::BODY;
 use super::Reader;
 use crate::fault::Fault;
@@ -14,10 +14,11 @@ use crate::fault::Reason;
 use crate::state::Heard;
 use crate::state::Part;
 use crate::state::State;
+use frame::channel::LAST_CHANNEL;
 use frame::form::Direction;
 use frame::form::Form;
 use frame::form::TEXT;
-use frame::head::Address;
+use frame::head::GENERAL;
 use frame::wire::MARK;
 
 impl Reader {
@@ -44,37 +45,168 @@ impl Reader {
         ensures answer { λ r. ⌜ r ≡ hears (meaning (now (self .entry))) b .says ⌝ }
     {
         match (self.state, b) {
-            (State::Waiting | State::Passed, MARK) => self.clear(State::Marked),
-            (State::Waiting | State::Passed | State::Marked, _) => self.clear(State::Waiting),
+            (State::Waiting | State::Passed, MARK) => self.rest(State::Marked),
+            (State::Marked | State::Started, MARK) => self.rest(State::Started),
+            (State::Waiting | State::Passed | State::Marked, _) => self.rest(State::Waiting),
             (State::Started, _) => self.begin(b),
             (State::Inside(part), MARK) => self.escape(part),
             (State::Inside(part), _) => self.add(part, b),
             (State::Escaped(part), 0) => self.add(part, MARK),
-            (State::Escaped(_), MARK) => self.fail(Reason::NewFrame),
-            (State::Escaped(_), _) => self.fail(Reason::StrayMark),
+            (State::Escaped(_), MARK) => self.fail(Reason::NewFrame, State::Started),
+            (State::Escaped(_), _) => self.fail(Reason::StrayMark, State::Waiting),
         }
     }
 }
 
 impl Reader {
-    // Lets go of the frame so far.
-    fn clear(&mut self, state: State) -> Result<Heard, Fault>
+    // Goes on with no frame.
+    fn rest(&mut self, state: State) -> Result<Heard, Fault>
         requires { ⌜ room state ≤ 259 ⌝ }
         ensures after { λ _. ⌜ meaning (now (self .exit)) ≡ at (now (self .entry) .direction) state [] 0 ⌝ }
         ensures answer { λ r. ⌜ r ≡ Ok Heard.More ⌝ }
+    {
+        self.clear(state);
+        Ok(Heard::More)
+    }
+
+    // Drops the frame for a fault at this byte.
+    fn fail(&mut self, reason: Reason, state: State) -> Result<Heard, Fault>
+        requires { ⌜ room state ≤ 259 ⌝ }
+        ensures after { λ _. ⌜ meaning (now (self .exit)) ≡ at (now (self .entry) .direction) state [] 0 ⌝ }
+        ensures answer { λ r. ⌜ r ≡ faulty reason (now (self .entry) .raw + 1) (fresh (now (self .entry) .direction)) .says ⌝ }
+    {
+        let fault = Fault { layer: Layer::Reader, reason, count: self.raw + 1 };
+        self.clear(state);
+        Err(fault)
+    }
+
+    fn clear(&mut self, state: State)
+        requires { ⌜ room state ≤ 259 ⌝ }
+        ensures { λ _. ⌜ meaning (now (self .exit)) ≡ at (now (self .entry) .direction) state [] 0 ⌝ }
     {
         self.state = state;
         self.len = 0;
         self.register = fcs::START;
         self.raw = 0;
+    }
+
+    // An AA in a frame.
+    fn escape(&mut self, part: Part) -> Result<Heard, Fault>
+        requires state { ⌜ now self .state ≡ State.Inside part ⌝ }
+        ensures after { λ _. ⌜ meaning (now (self .exit)) ≡ at (now (self .entry) .direction) (State.Escaped part) (meaning (now (self .entry)) .bytes) (now (self .entry) .raw + 1) ⌝ }
+        ensures answer { λ r. ⌜ r ≡ Ok Heard.More ⌝ }
+    {
+        self.state = State::Escaped(part);
+        self.raw += 1;
         Ok(Heard::More)
     }
 
-    // Drops the frame for a fault at this byte. A new frame has begun where AA AA is the fault.
-    fn fail(&mut self, reason: Reason) -> Result<Heard, Fault>
+    // The channel byte.
+    fn begin(&mut self, b: u8) -> Result<Heard, Fault>
+        requires { ⌜ now self .state ≡ State.Started ⌝ }
+        ensures after { λ _. ⌜ meaning (now (self .exit)) ≡ withChannel (now (self .entry) .direction) b .then ⌝ }
+        ensures answer { λ r. ⌜ r ≡ withChannel (now (self .entry) .direction) b .says ⌝ }
     {
-        let fault = Fault { layer: Layer::Reader, reason, count: self.raw + 1 };
-        let _ = self.clear(if reason == Reason::NewFrame {State::Started} else { State::Waiting});
-        Err(fault)
+        if b <= LAST_CHANNEL || b == GENERAL {
+            self.keep(b, Part::Code)
+        } else {
+            self.fail(Reason::BadChannel, State::Waiting)
+        }
+    }
+
+    // One byte more of the frame.
+    fn add(&mut self, part: Part, b: u8) -> Result<Heard, Fault>
+        requires room { ⌜ now self .len + roomOf part ≤ 259 ⌝ }
+        requires raw { ⌜ now self .raw ≤ 2 * (now self .len) + outsideOf part + 1 ⌝ }
+        ensures after { λ _. ⌜ meaning (now (self .exit)) ≡ withByte (now (self .entry) .direction) part (meaning (now (self .entry)) .bytes) (now (self .entry) .raw + 1) b .then ⌝ }
+        ensures answer { λ r. ⌜ r ≡ withByte (now (self .entry) .direction) part (meaning (now (self .entry)) .bytes) (now (self .entry) .raw + 1) b .says ⌝ }
+    {
+        match part {
+            Part::Code => self.add_code(b),
+            Part::Count => self.keep(b, Part::Block(u16::from(b) + 1)),
+            Part::Block(left) => self.add_block(left, b),
+            Part::Text => self.add_text(b),
+            Part::Low => self.hold(b),
+            Part::High(low) => self.close(low, b),
+        }
+    }
+
+    fn add_code(&mut self, b: u8) -> Result<Heard, Fault>
+        requires room { ⌜ now self .len + 258 ≤ 259 ⌝ }
+        requires raw { ⌜ now self .raw ≤ 2 * (now self .len) + 1 ⌝ }
+        ensures after { λ _. ⌜ meaning (now (self .exit)) ≡ withByte (now (self .entry) .direction) Part.Code (meaning (now (self .entry)) .bytes) (now (self .entry) .raw + 1) b .then ⌝ }
+        ensures answer { λ r. ⌜ r ≡ withByte (now (self .entry) .direction) Part.Code (meaning (now (self .entry)) .bytes) (now (self .entry) .raw + 1) b .says ⌝ }
+    {
+        match Form::of(self.direction, b & 0x3f) {
+            Some(form) => self.keep(b, Part::after_code(form)),
+            None => self.fail(Reason::UnknownCode, State::Waiting),
+        }
+    }
+
+    fn add_block(&mut self, left: u16, b: u8) -> Result<Heard, Fault>
+        requires room { ⌜ now self .len + roomOf (Part.Block left) ≤ 259 ⌝ }
+        requires raw { ⌜ now self .raw ≤ 2 * (now self .len) + 1 ⌝ }
+        ensures after { λ _. ⌜ meaning (now (self .exit)) ≡ withByte (now (self .entry) .direction) (Part.Block left) (meaning (now (self .entry)) .bytes) (now (self .entry) .raw + 1) b .then ⌝ }
+        ensures answer { λ r. ⌜ r ≡ withByte (now (self .entry) .direction) (Part.Block left) (meaning (now (self .entry)) .bytes) (now (self .entry) .raw + 1) b .says ⌝ }
+    {
+        if left > 1 {
+            self.keep(b, Part::Block(left - 1))
+        } else {
+            self.keep(b, Part::Low)
+        }
+    }
+
+    fn add_text(&mut self, b: u8) -> Result<Heard, Fault>
+        requires room { ⌜ now self .len + 2 ≤ 259 ⌝ }
+        requires raw { ⌜ now self .raw ≤ 2 * (now self .len) + 1 ⌝ }
+        ensures after { λ _. ⌜ meaning (now (self .exit)) ≡ withByte (now (self .entry) .direction) Part.Text (meaning (now (self .entry)) .bytes) (now (self .entry) .raw + 1) b .then ⌝ }
+        ensures answer { λ r. ⌜ r ≡ withByte (now (self .entry) .direction) Part.Text (meaning (now (self .entry)) .bytes) (now (self .entry) .raw + 1) b .says ⌝ }
+    {
+        if b == 0 {
+            self.keep(b, Part::Low)
+        } else if self.len < TEXT + 2 {
+            self.keep(b, Part::Text)
+        } else {
+            self.fail(Reason::EndlessText, State::Waiting)
+        }
+    }
+
+    // Keeps a byte of the body.
+    fn keep(&mut self, b: u8, next: Part) -> Result<Heard, Fault>
+        requires room { ⌜ now self .len + 1 + roomOf next ≤ 259 ⌝ }
+        requires raw { ⌜ now self .raw ≤ 2 * (now self .len) + 1 + outsideOf next ⌝ }
+        ensures after { λ _. ⌜ meaning (now (self .exit)) ≡ at (now (self .entry) .direction) (State.Inside next) (meaning (now (self .entry)) .bytes ++ b ∷ []) (now (self .entry) .raw + 1) ⌝ }
+        ensures answer { λ r. ⌜ r ≡ Ok Heard.More ⌝ }
+    {
+        self.state = State::Inside(next);
+        self.body[self.len] = b;
+        self.len += 1;
+        self.register = fcs::step(self.register, b);
+        self.raw += 1;
+        Ok(Heard::More)
+    }
+
+    // Holds the low byte of the checksum.
+    fn hold(&mut self, low: u8) -> Result<Heard, Fault>
+        requires { ⌜ now self .raw ≤ 2 * (now self .len) + 1 ⌝ }
+        ensures after { λ _. ⌜ meaning (now (self .exit)) ≡ at (now (self .entry) .direction) (State.Inside (Part.High low)) (meaning (now (self .entry)) .bytes) (now (self .entry) .raw + 1) ⌝ }
+        ensures answer { λ r. ⌜ r ≡ Ok Heard.More ⌝ }
+    {
+        self.state = State::Inside(Part::High(low));
+        self.raw += 1;
+        Ok(Heard::More)
+    }
+
+    // The last byte of the frame: it passes if its checksum is good.
+    fn close(&mut self, low: u8, high: u8) -> Result<Heard, Fault>
+        ensures after { λ _. ⌜ meaning (now (self .exit)) ≡ withByte (now (self .entry) .direction) (Part.High low) (meaning (now (self .entry)) .bytes) (now (self .entry) .raw + 1) high .then ⌝ }
+        ensures answer { λ r. ⌜ r ≡ withByte (now (self .entry) .direction) (Part.High low) (meaning (now (self .entry)) .bytes) (now (self .entry) .raw + 1) high .says ⌝ }
+    {
+        if fcs::extend(self.register, &[low, high]) != fcs::RESIDUE {
+            return self.fail(Reason::BadChecksum, State::Waiting);
+        }
+        self.state = State::Passed;
+        self.raw = 0;
+        Ok(Heard::Frame)
     }
 }

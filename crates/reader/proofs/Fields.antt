@@ -1,0 +1,42 @@
+-- The reader's fields: the register over one byte more, and the bounds of the counts.
+use mathlib.Core.Path.{_≡_, refl, sym, ap, _∙_}
+use mathlib.Core.List.{List, [], _∷_, _++_}
+use Prim.Native.Nat.{ℕ, _+_, _<_, _≤_}
+use native.Mathlib.Omega.{arith}
+use lib.ListN.{length, take, set}
+use Rattle.std.proofs.shelf.Lists.{take-more-set}
+use Rattle.fcs.specs.Fcs.{stepOf, extended, registerOf}
+use Rattle.fcs.proofs.Extended.{extended-append}
+use Rattle.reader.specs.declared.state.Part.{Part}
+use Rattle.reader.specs.declared.state.Part.the-variants.{Code, Count, Block, Text, Low, High}
+use Rattle.reader.specs.declared.state.State.{State}
+use Rattle.reader.specs.declared.state.State.the-variants.{Waiting, Marked, Started, Inside, Escaped, Passed}
+use Rattle.reader.specs.State.{outside, outsideOf}
+
+pub register-none : registerOf [] ≡ 65535
+unfolding extended
+register-none = refl
+
+register-one : (c b : ℕ) → extended c (b ∷ []) ≡ stepOf c b
+unfolding extended
+register-one c b = refl
+
+pub register-more : (body : List ℕ) (n b : ℕ) → n < length body → registerOf (take (n + 1) (set body n b)) ≡ stepOf (registerOf (take n body)) b
+register-more body n b h =
+    ap registerOf (take-more-set body n b h) ∙ extended-append 65535 (take n body) (b ∷ []) ∙ register-one (registerOf (take n body)) b
+
+pub outsideOf-few : (p : Part) → outsideOf p ≤ 2
+outsideOf-few Code = omega arith
+outsideOf-few Count = omega arith
+outsideOf-few (Block n) = omega arith
+outsideOf-few Text = omega arith
+outsideOf-few Low = omega arith
+outsideOf-few (High low) = omega arith
+
+pub outside-few : (s : State) → outside s ≤ 3
+outside-few Waiting = omega arith
+outside-few Marked = omega arith
+outside-few Started = omega arith
+outside-few (Inside p) = omega (arith, outsideOf-few p)
+outside-few (Escaped p) = omega (arith, outsideOf-few p)
+outside-few Passed = omega arith
