@@ -1,3 +1,4 @@
 pub mod Fault
 pub mod State
 pub mod Read
+pub mod Laws

@@ -67,8 +67,11 @@ abbrev pub inside : Direction → Part → List ℕ → ℕ → Next
 inside d p bs n = goes (at d (Inside p) bs n)
 
 -- a fault at the n-th raw byte, and the reader it leaves
+abbrev pub faultOf : Reason → ℕ → Fault
+faultOf reason n = record { layer = layer.Reader; reason = reason; count = n }
+
 abbrev pub faulty : Reason → ℕ → Meaning → Next
-faulty reason n m = record { then = m; says = Err (record { layer = layer.Reader; reason = reason; count = n }) }
+faulty reason n m = record { then = m; says = Err (faultOf reason n) }
 
 abbrev pub drops : Direction → Reason → ℕ → Next
 drops d reason n = faulty reason n (fresh d)
