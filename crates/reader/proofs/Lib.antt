@@ -1,3 +1,5 @@
+pub mod Counts
 pub mod Fields
 pub mod Runs
+pub mod Tracks
 pub mod Trip

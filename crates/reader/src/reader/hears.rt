@@ -4,7 +4,7 @@ ghost use mathlib.Core.List.{[], _∷_, _++_};
 ghost use Prim.Native.Nat.{ℕ, _+_, _*_, _<_, _≤_};
 ghost use Rattle.std.specs.Options.{mapped};
 ghost use Rattle.std.specs.declared.result.Result.the-variants.{Ok};
-ghost use Rattle.reader.specs.Laws.{Round-trip};
+ghost use Rattle.reader.specs.Laws.{Round-trip, One-wire-form, Counts-raw};
 ghost use Rattle.reader.specs.State.{room, roomOf, outsideOf};
 ghost use Rattle.reader.specs.Read.{meaning, at, fresh, passed, hears, withChannel, withByte, faulty};
 use super::BODY;
@@ -27,6 +27,8 @@ impl Reader {
     pub fn new(direction: Direction) -> Reader
         ensures value { λ r. ⌜ meaning r ≡ fresh direction ⌝ }
         ensures round_trip { λ _. ⌜ Round-trip ⌝ }
+        ensures one_wire_form { λ _. ⌜ One-wire-form direction ⌝ }
+        ensures counts { λ _. ⌜ Counts-raw direction ⌝ }
     {
         Reader { direction, state: State::Waiting, body: [0; BODY], len: 0, register: fcs::START, raw: 0 }
     }
