@@ -1,5 +1,4 @@
 pub mod Frame
 pub mod Head
 pub mod Kinds
-pub mod List
 pub mod Wire

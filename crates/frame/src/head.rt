@@ -4,9 +4,9 @@ ghost use Prim.Native.Nat.{_<_};
 ghost use Rattle.std.specs.Options.{Cases};
 ghost use Rattle.frame.specs.Frame.{codeByte, ChannelByte, Frame, Body};
 ghost use Rattle.frame.specs.Head.{byteOf, NoHead, HeadIn, HeadOf};
-use crate::channel::Channel;
-use crate::channel::ChannelDebug;
-use crate::channel::ChannelPartialEq;
+use poll::channel::Channel;
+use poll::channel::ChannelDebug;
+use poll::channel::ChannelPartialEq;
 use crate::form::Direction;
 
 /// The channel byte of the general poll.

@@ -1,7 +1,5 @@
-// The frames of the link: channels, bodies of both directions, poll lists, and the wire form.
-pub mod channel;
+// The frames of the link: bodies of both directions, and the wire form.
 pub mod form;
 pub mod frames;
 pub mod head;
-pub mod list;
 pub mod wire;

@@ -15,7 +15,7 @@ use crate::fault::Reason;
 use crate::state::Heard;
 use crate::state::Part;
 use crate::state::State;
-use frame::channel::LAST_CHANNEL;
+use poll::channel::LAST_CHANNEL;
 use frame::form::Direction;
 use frame::form::Form;
 use frame::form::TEXT;

@@ -6,11 +6,11 @@ use Prim.Native.Nat.{ℕ, _+_, _<_}
 use native.Mathlib.Omega.{arith}
 use lib.ListN.{length, getD, set, take, length-set}
 use Rattle.std.proofs.shelf.Lists.{take-more, take-all}
-use Rattle.frame.specs.declared.channel.Channel.{Channel}
-use Rattle.frame.specs.List.{Fresh, GoodTo, Names}
-use Rattle.frame.proofs.ListLeft.{left-more}
-use Rattle.frame.proofs.ListSeen.{trues-le, trues-lt, trues-set, names-none, names-more}
-use Rattle.frame.proofs.list.PollList.read.Needs as need
+use Rattle.poll.specs.declared.channel.Channel.{Channel}
+use Rattle.poll.specs.List.{Fresh, GoodTo, Names}
+use Rattle.poll.proofs.ListLeft.{left-more}
+use Rattle.poll.proofs.ListSeen.{trues-le, trues-lt, trues-set, names-none, names-more}
+use Rattle.poll.proofs.list.PollList.read.Needs as need
 
 pub loop-value-holds : need.loop-value-holds
 loop-value-holds c = (refl, refl, refl, names-none 64, (λ k h. omega arith), refl)

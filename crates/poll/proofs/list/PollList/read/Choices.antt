@@ -3,10 +3,10 @@ use mathlib.Core.Path.{_≡_}
 use mathlib.Core.List.{map}
 use Prim.Native.Nat.{ℕ, _+_}
 use lib.ListN.{length, take}
-use Rattle.frame.specs.declared.channel.Channel.{Channel}
-use Rattle.frame.specs.List.{GoodTo, Names}
-use Rattle.frame.proofs.ListSeen.{trues}
-use Rattle.frame.proofs.list.PollList.read.Given as given
+use Rattle.poll.specs.declared.channel.Channel.{Channel}
+use Rattle.poll.specs.List.{GoodTo, Names}
+use Rattle.poll.proofs.ListSeen.{trues}
+use Rattle.poll.proofs.list.PollList.read.Given as given
 
 abbrev pub Inv-loop-value : given.InvT-loop-value
 Inv-loop-value l =

@@ -3,8 +3,8 @@ use mathlib.Core.Path.{_≡_}
 use mathlib.Core.List.{_++_}
 use Prim.Native.Nat.{_≤_}
 use lib.ListN.{length, take, drop}
-use Rattle.frame.specs.List.{listedFrom, listOf}
-use Rattle.frame.proofs.list.ListText.of.Given as given
+use Rattle.poll.specs.List.{listedFrom, listOf}
+use Rattle.poll.proofs.list.ListText.of.Given as given
 
 abbrev pub Inv-loop-place : given.InvT-loop-place
 Inv-loop-place l =

@@ -1,8 +1,8 @@
 -- The first channel left to poll, and none of an empty list.
 use native.Mathlib.Omega.{arith}
-use Rattle.frame.specs.declared.channel.Channel.{Channel}
-use Rattle.frame.proofs.ListLeft.{left-first, left-none}
-use Rattle.frame.proofs.list.PollList.first.Needs as need
+use Rattle.poll.specs.declared.channel.Channel.{Channel}
+use Rattle.poll.proofs.ListLeft.{left-first, left-none}
+use Rattle.poll.proofs.list.PollList.first.Needs as need
 
 pub returns-then-self : need.returns-then-self
 returns-then-self c =

@@ -4,7 +4,7 @@ ghost use mathlib.Core.List.{[], _∷_, map};
 ghost use Prim.Native.Nat.{ℕ, _+_};
 ghost use lib.ListN.{drop};
 ghost use Rattle.std.specs.Options.{Cases};
-ghost use Rattle.frame.specs.List.{GoodList, polled, listOf, textOf, Names, Ascends};
+ghost use Rattle.poll.specs.List.{GoodList, polled, listOf, textOf, Names, Ascends};
 use super::ListText;
 use super::PollList;
 use crate::channel::Channel;

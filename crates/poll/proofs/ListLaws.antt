@@ -7,7 +7,7 @@ use native.Mathlib.Omega.{arith}
 use lib.ListN.{length, getD, set, take, drop}
 use Rattle.std.proofs.shelf.Lists.{append-nil, append-assoc, at-drop-more, at-drop-all, getD-take, length-take, take-more-set}
 use Rattle.std.proofs.shelf.Tests.{true≢false, false≢true}
-use Rattle.frame.specs.List.{Fresh, GoodList, listedFrom, listOf, Names, Ascends}
+use Rattle.poll.specs.List.{Fresh, GoodList, listedFrom, listOf, Names, Ascends}
 
 -- from channel c on, each value is above c, and at most the last channel's
 pub within : (ws : List Bool) (c k : ℕ) → k < length (listedFrom c ws) →

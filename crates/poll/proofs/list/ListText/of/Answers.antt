@@ -4,10 +4,10 @@ use mathlib.Core.List.{List, _++_}
 use Prim.Native.Nat.{ℕ, _+_, _<_}
 use native.Mathlib.Omega.{arith}
 use lib.ListN.{length, take, drop, length-set}
-use Rattle.frame.specs.List.{GoodList, listedFrom, listOf, Names, Ascends}
-use Rattle.frame.proofs.ListLaws.{good, names, ascends, list-more, list-same, list-all}
-use Rattle.frame.proofs.list.ListText.of.Needs as need
-use Rattle.frame.proofs.list.ListText.of.Needs.{then-waits, else-waits}
+use Rattle.poll.specs.List.{GoodList, listedFrom, listOf, Names, Ascends}
+use Rattle.poll.proofs.ListLaws.{good, names, ascends, list-more, list-same, list-all}
+use Rattle.poll.proofs.list.ListText.of.Needs as need
+use Rattle.poll.proofs.list.ListText.of.Needs.{then-waits, else-waits}
 
 pub loop-place-again : need.loop-place-again
 loop-place-again c =

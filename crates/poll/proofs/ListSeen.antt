@@ -8,7 +8,7 @@ use native.Mathlib.Omega.{arith}
 use lib.ListN.{length, getD, set, replicate}
 use Rattle.std.proofs.shelf.Lists.{getD-set-same, getD-set-other, getD-append-left, getD-push, length-push}
 use Rattle.std.proofs.shelf.Tests.{cases-lt, cases-eq, both-ways}
-use Rattle.frame.specs.List.{Fresh, Names}
+use Rattle.poll.specs.List.{Fresh, Names}
 
 -- how many places are marked
 abbrev pub trues : List Bool → ℕ

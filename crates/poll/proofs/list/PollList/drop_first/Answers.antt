@@ -1,9 +1,9 @@
 -- The list without its first channel.
 use mathlib.Core.Path.{sym, ap, _∙_}
 use lib.ListN.{drop}
-use Rattle.frame.specs.declared.channel.Channel.{Channel}
-use Rattle.frame.proofs.ListLeft.{left-rest, left-none}
-use Rattle.frame.proofs.list.PollList.drop_first.Needs as need
+use Rattle.poll.specs.declared.channel.Channel.{Channel}
+use Rattle.poll.proofs.ListLeft.{left-rest, left-none}
+use Rattle.poll.proofs.list.PollList.drop_first.Needs as need
 
 pub returns-then-self : need.returns-then-self
 returns-then-self c =

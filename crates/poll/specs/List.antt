@@ -4,9 +4,9 @@ use mathlib.Core.Bool.{Bool, true, false, cond}
 use mathlib.Core.List.{List, [], _∷_, map}
 use Prim.Native.Nat.{ℕ, _+_, _<_, _≤_}
 use lib.ListN.{length, getD, take, drop}
-use Rattle.frame.specs.declared.channel.Channel.{Channel}
-use Rattle.frame.specs.declared.list.PollList.{PollList}
-use Rattle.frame.specs.declared.list.ListText.{ListText}
+use Rattle.poll.specs.declared.channel.Channel.{Channel}
+use Rattle.poll.specs.declared.list.PollList.{PollList}
+use Rattle.poll.specs.declared.list.ListText.{ListText}
 
 -- none of the values is v
 abbrev pub Fresh : List ℕ → ℕ → Type 0
