@@ -2,7 +2,7 @@
 use mathlib.Core.Path.{_≡_}
 use mathlib.Core.List.{List}
 use mathlib.Core.Logic.{_⊎_}
-use Prim.Native.Nat.{ℕ, _<_}
+use Prim.Native.Nat.{ℕ, _<_, _≤_}
 use lib.ListN.{length, getD}
 use Rattle.frame.specs.declared.head.Address.{Address}
 use Rattle.frame.specs.declared.head.Address.the-variants.{Channel, General}
@@ -15,11 +15,13 @@ abbrev pub byteOf : Address → ℕ
 byteOf (Channel c) = c .number
 byteOf General = 255
 
--- a body without a head: too short, or no channel byte
+-- a body without a head is too short, or has no channel byte
 abbrev pub NoHead : List ℕ → Type 0
 NoHead body = (length body < 2) ⊎ (ChannelByte (getD body 0 0) → ⊥)
 
+-- the head that a body begins with
 pub record HeadIn (body : List ℕ) (h : Head) : Type 0 where
+  pub long : 2 ≤ length body
   pub address : byteOf (h .address) ≡ getD body 0 0
   pub reset : h .reset ≡ resetIn (getD body 1 0)
   pub toggle : h .toggle ≡ toggleIn (getD body 1 0)

@@ -56,11 +56,12 @@ impl Head {
         ensures reads { λ r. ⌜ Cases r (NoHead (now (body .entry))) (λ h. HeadIn (now (body .entry)) h) ⌝ }
         ensures built { λ r. ⌜ ((d : Direction) (f : Frame) → Body d (now (body .entry)) f → Cases r ⊥ (λ h. HeadOf f h)) ⌝ }
     {
-        let [first, code, ..] = body else {
+        if body.len() < 2 {
             return None;
-        };
-        let address = Address::of(*first)?;
-        Some(Head { address, reset: *code & 0x40 != 0, toggle: *code & 0x80 != 0 })
+        }
+        let address = Address::of(body[0])?;
+        let code = body[1];
+        Some(Head { address, reset: code & 0x40 != 0, toggle: code & 0x80 != 0 })
     }
 
     /// The code byte of a frame with this head.
