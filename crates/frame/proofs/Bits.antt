@@ -68,10 +68,3 @@ code-no-mark code true true h e = omega arith
 code-no-mark code true false h e = omega arith
 code-no-mark code false true h e = omega arith
 code-no-mark code false false h e = omega arith
-
--- and none is above 255
-pub code-fits : (code : ℕ) (r t : Bool) → code < 64 → codeByte code r t < 256
-code-fits code true true h = omega arith
-code-fits code true false h = omega arith
-code-fits code false true h = omega arith
-code-fits code false false h = omega arith

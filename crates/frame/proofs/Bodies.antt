@@ -19,7 +19,7 @@ use Rattle.frame.specs.declared.form.Form.{Form}
 use Rattle.frame.specs.declared.form.Form.the-variants.{Bare, Text, Counted}
 use Rattle.frame.specs.Frame.{formOf, codeByte, codeIn, resetIn, toggleIn, ChannelByte, Carries, carried, Frame, bodyOf, Sendable, Body, frameIn}
 use Rattle.frame.specs.declared.head.Head.{Head}
-use Rattle.frame.specs.Head.{NoHead, HeadIn, HeadOf}
+use Rattle.frame.specs.Head.{HeadIn, HeadOf}
 use Rattle.frame.specs.Kinds.{Shown, shownIn, Holds, PayloadOf, Reads, Built}
 use Rattle.frame.proofs.Bits.{code-back, code-in, reset-in, toggle-in}
 use Rattle.frame.proofs.Carried.{one-payload}
@@ -111,12 +111,7 @@ named d body payload s b code same =
     ((code, g),
      λ f c. ap (λ (x : Shown). Some x) ((λ i. record { code = code i; payload = s .payload }) ∙ one-frame d body (frameIn body (s .payload)) f g c))
 
--- a body with no head is that of no frame, and a head read is that of the frame
-pub no-head : (d : Direction) (body : List ℕ) (f : Frame) → NoHead body → Body d body f → ⊥
-no-head d body f h b =
-    let two = long-enough d body f b in
-    ⊎-elim (λ short. omega arith) (λ none. none (subst ChannelByte (sym (channel-read d body f b)) (b .sendable .address))) h
-
+-- a head that is read is that of the frame
 pub head-read : (d : Direction) (body : List ℕ) (f : Frame) (h : Head) → HeadIn body h → Body d body f → HeadOf f h
 head-read d body f h i b =
     let code : getD body 1 0 ≡ codeByte (f .code) (f .reset) (f .toggle) = ap (λ (l : List ℕ). getD l 1 0) (b .bytes-are) in

@@ -71,22 +71,3 @@ laid m f body before after n known address h wide e long w =
     (wide, h, l, omega arith,
      w ∙ over-start before (wireOf body) ∙ ap (λ (x : List ℕ). wireOf x ++ drop (length (wireOf x)) before) e
        ∙ ap (λ (k : ℕ). wireOf (bodyOf m f) ++ drop k before) (sym l))
-
--- what is laid in a known form is written
-pub written : (d : Direction) (m : Form) (f : Frame) (before after : List ℕ) (r : Result ℕ Refusal) → formOf d (f .code) ≡ Some m → ChannelByte (f .channel)
-    → Lays m f before after r → Writes d f before after r
-written d m f before after (Ok n) known address h =
-    record {
-      wide = h .0;
-      body = bodyOf m f;
-      body-of = record { form = m; sendable = record { known = known; address = address; carries = h .1 }; bytes-are = refl };
-      length-is = h .2;
-      short = h .3;
-      buffer = h .4 }
-written d m f before after (Err ShortWire) known address h = h
-written d m f before after (Err BadPayload) known address h =
-    (h .0,
-     λ body b.
-       let same : b .form ≡ m = (let k = b .sendable .known in cc) in
-       h .1 (subst (λ (x : Form). Carries x (f .payload)) same (b .sendable .carries)),
-     h .2)

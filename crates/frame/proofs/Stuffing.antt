@@ -78,9 +78,6 @@ put-mark d at b e h =
 pub put-other : (d : List ℕ) (at b : ℕ) → (b ≡ 170 → ⊥) → at < length d → set d at b ≡ over d at (stuff b)
 put-other d at b ne h = over-one d at b h ∙ ap (over d at) (sym (cond-false (eqb b 170) (b ∷ 0 ∷ []) (b ∷ []) (ne-eqb b 170 ne)))
 
-pub length-mark : (b : ℕ) → b ≡ 170 → length (stuff b) ≡ 2
-length-mark b e = length-stuff b ∙ cond-true (eqb b 170) 2 1 (eq-eqb b 170 e)
-
 pub length-other : (b : ℕ) → (b ≡ 170 → ⊥) → length (stuff b) ≡ 1
 length-other b ne = length-stuff b ∙ cond-false (eqb b 170) 2 1 (ne-eqb b 170 ne)
 
@@ -106,9 +103,6 @@ unfolding over
 drop-over d s n e =
     let z : n ≡ 0 + length s = omega arith in
     ap (λ (k : ℕ). drop k (over d 0 s)) z ∙ drop-paste d 0 s (length s) (omega arith) (omega arith) ∙ ap (λ (k : ℕ). drop k d) (sym z)
-
-pub length-some : (b : ℕ) → 1 ≤ length (stuff b)
-length-some b = elim (eqb b 170) as (λ t. 1 ≤ length (cond t (b ∷ 0 ∷ []) (b ∷ []))) [ true ↦ omega arith | false ↦ omega arith ]
 
 -- the wire form of a body in three parts
 pub parts-wire : (f p b : List ℕ)

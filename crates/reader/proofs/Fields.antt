@@ -24,19 +24,3 @@ register-one c b = refl
 pub register-more : (body : List ℕ) (n b : ℕ) → n < length body → registerOf (take (n + 1) (set body n b)) ≡ stepOf (registerOf (take n body)) b
 register-more body n b h =
     ap registerOf (take-more-set body n b h) ∙ extended-append 65535 (take n body) (b ∷ []) ∙ register-one (registerOf (take n body)) b
-
-pub outsideOf-few : (p : Part) → outsideOf p ≤ 2
-outsideOf-few Code = omega arith
-outsideOf-few Count = omega arith
-outsideOf-few (Block n) = omega arith
-outsideOf-few Text = omega arith
-outsideOf-few Low = omega arith
-outsideOf-few (High low) = omega arith
-
-pub outside-few : (s : State) → outside s ≤ 3
-outside-few Waiting = omega arith
-outside-few Marked = omega arith
-outside-few Started = omega arith
-outside-few (Inside p) = omega (arith, outsideOf-few p)
-outside-few (Escaped p) = omega (arith, outsideOf-few p)
-outside-few Passed = omega arith
