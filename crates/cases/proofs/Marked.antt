@@ -49,5 +49,13 @@ count block e =
 
 pub marked-cases : Marked-cases
 marked-cases = record {
-    wire-521 = goes; wire-520 = refused; number-14 = refl; third-mark = third; stuffed-count = count; stray-mark = stray; number-1 = refl;
-    code-87 = (refl, refl, refl); empty-list = refl }
+  wire-521 = goes;
+  wire-520 = refused;
+  number-14 = refl;
+  third-mark = third;
+  stuffed-count = count;
+  stray-mark = stray;
+  number-1 = refl;
+  code-87 = (refl, refl, refl);
+  empty-list = refl;
+}

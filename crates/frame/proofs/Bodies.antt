@@ -32,14 +32,14 @@ unknown FromTnc code h = grind (arith, tells)
 pub known-code : (d : Direction) (code : ℕ) (m : Form) → formOf d code ≡ Some m → code < 8
 known-code d code m e =
     ⊎-elim (λ h. h)
-      (λ h. let n = unknown d code h in let z : _≡_ {A = ℕ} 0 1 = cc in absurd (omega arith))
-      (cases-lt code 8)
+    (λ h. let n = unknown d code h in let z : _≡_ {A = ℕ} 0 1 = cc in absurd (omega arith))
+    (cases-lt code 8)
 
 pub known-host : (code : ℕ) (m : Form) → formOf FromHost code ≡ Some m → code < 2
 known-host code m e =
     ⊎-elim (λ h. h)
-      (λ h. let n : formOf FromHost code ≡ None = grind (arith, tells) in let z : _≡_ {A = ℕ} 0 1 = cc in absurd (omega arith))
-      (cases-lt code 2)
+    (λ h. let n : formOf FromHost code ≡ None = grind (arith, tells) in let z : _≡_ {A = ℕ} 0 1 = cc in absurd (omega arith))
+    (cases-lt code 2)
 
 -- what the first bytes of a frame's body say
 pub code-read : (d : Direction) (body : List ℕ) (f : Frame) → Body d body f → codeIn (getD body 1 0) ≡ f .code
@@ -75,16 +75,17 @@ pub payload-found : (d : Direction) (m : Form) (body rest : List ℕ) (r : Optio
     → rest ≡ drop 2 body → Holds m rest r → PayloadOf d body r
 payload-found d m body rest None two address fits known e h =
     λ f b.
-      let same : b .form ≡ m = (let p = form-read d body f b in cc) in
-      h (f .payload) (subst (λ (n : Form). Carries n (f .payload)) same (b .sendable .carries))
-        (e ∙ rest-read d body f b ∙ ap (λ (n : Form). carried n (f .payload)) same)
+    let same : b .form ≡ m = (let p = form-read d body f b in cc) in
+    h (f .payload) (subst (λ (n : Form). Carries n (f .payload)) same (b .sendable .carries))
+    (e ∙ rest-read d body f b ∙ ap (λ (n : Form). carried n (f .payload)) same)
 payload-found d m body rest (Some p) two address fits known e h =
     record {
       form = m;
       sendable = record { known = known; address = address; carries = h .0 };
       bytes-are = split-two body two
-        ∙ ap (λ (c : ℕ). getD body 0 0 ∷ c ∷ drop 2 body) (sym (code-back (getD body 1 0) fits))
-        ∙ ap (λ (l : List ℕ). getD body 0 0 ∷ codeByte (codeIn (getD body 1 0)) (resetIn (getD body 1 0)) (toggleIn (getD body 1 0)) ∷ l) (sym e ∙ h .1) }
+          ∙ ap (λ (c : ℕ). getD body 0 0 ∷ c ∷ drop 2 body) (sym (code-back (getD body 1 0) fits))
+          ∙ ap (λ (l : List ℕ). getD body 0 0 ∷ codeByte (codeIn (getD body 1 0)) (resetIn (getD body 1 0)) (toggleIn (getD body 1 0)) ∷ l) (sym e ∙ h .1);
+    }
 
 -- two frames of one body show the same
 pub one-frame : (d : Direction) (body : List ℕ) (f g : Frame) → Body d body f → Body d body g → shownIn f ≡ shownIn g
@@ -92,8 +93,8 @@ one-frame d body f g b c =
     let same : b .form ≡ c .form = (let p = form-read d body f b in let q = form-read d body g c in cc) in
     let code : f .code ≡ g .code = sym (code-read d body f b) ∙ code-read d body g c in
     let payload : f .payload ≡ g .payload =
-      one-payload (c .form) (f .payload) (g .payload) (subst (λ (n : Form). Carries n (f .payload)) same (b .sendable .carries)) (c .sendable .carries)
-        (ap (λ (n : Form). carried n (f .payload)) (sym same) ∙ sym (rest-read d body f b) ∙ rest-read d body g c) in
+    one-payload (c .form) (f .payload) (g .payload) (subst (λ (n : Form). Carries n (f .payload)) same (b .sendable .carries)) (c .sendable .carries)
+    (ap (λ (n : Form). carried n (f .payload)) (sym same) ∙ sym (rest-read d body f b) ∙ rest-read d body g c) in
     λ i. record { code = code i; payload = payload i }
 
 -- code 0 of the TNC carries nothing
@@ -107,9 +108,10 @@ bare-payload body f b e =
 pub named : (d : Direction) (body payload : List ℕ) (s : Shown) → Body d body (frameIn body payload) → s .code ≡ codeIn (getD body 1 0) → s .payload ≡ payload
     → Reads d body (Some s) × Built d body (Some s)
 named d body payload s b code same =
-    let g : Body d body (frameIn body (s .payload)) = subst (λ (p : List ℕ). Body d body (frameIn body p)) (sym same) b in
-    ((code, g),
-     λ f c. ap (λ (x : Shown). Some x) ((λ i. record { code = code i; payload = s .payload }) ∙ one-frame d body (frameIn body (s .payload)) f g c))
+    let g : Body d body (frameIn body (s .payload)) = subst (λ (p : List ℕ). Body d body (frameIn body p)) (sym same) b in (
+      (code, g),
+      λ f c. ap (λ (x : Shown). Some x) ((λ i. record { code = code i; payload = s .payload }) ∙ one-frame d body (frameIn body (s .payload)) f g c),
+    )
 
 -- a head that is read is that of the frame
 pub head-read : (d : Direction) (body : List ℕ) (f : Frame) (h : Head) → HeadIn body h → Body d body f → HeadOf f h
@@ -119,4 +121,5 @@ head-read d body f h i b =
     record {
       address = i .address ∙ channel-read d body f b;
       reset = i .reset ∙ ap resetIn code ∙ reset-in (f .code) (f .reset) (f .toggle) small;
-      toggle = i .toggle ∙ ap toggleIn code ∙ toggle-in (f .code) (f .reset) (f .toggle) small }
+      toggle = i .toggle ∙ ap toggleIn code ∙ toggle-in (f .code) (f .reset) (f .toggle) small;
+    }

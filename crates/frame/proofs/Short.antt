@@ -38,9 +38,9 @@ rest-short Counted p h =
     let e = length-cons (length p - 1) p in
     let d = stuffed-double p in
     ⊎-elim
-      (λ less. omega (arith, length-most (length p - 1)))
-      (λ full. omega (arith, length-other (length p - 1) (λ q. omega arith)))
-      (cases-lt (length p) 256)
+    (λ less. omega (arith, length-most (length p - 1)))
+    (λ full. omega (arith, length-other (length p - 1) (λ q. omega arith)))
+    (cases-lt (length p) 256)
 
 pub frame-short : (m : Form) (f : Frame) → f .code < 8 → ChannelByte (f .channel) → Carries m (f .payload) → length (wireOf (bodyOf m f)) ≤ 521
 frame-short m f known address h =
@@ -67,7 +67,11 @@ pub laid : (m : Form) (f : Frame) (body before after : List ℕ) (n : ℕ) → f
     → body ≡ bodyOf m f → n ≡ length (wireOf body) → after ≡ over before 0 (wireOf body) → Lays m f before after (Ok n)
 laid m f body before after n known address h wide e long w =
     let s = frame-short m f known address h in
-    let l : n ≡ length (wireOf (bodyOf m f)) = long ∙ ap (λ (x : List ℕ). length (wireOf x)) e in
-    (wide, h, l, omega arith,
-     w ∙ over-start before (wireOf body) ∙ ap (λ (x : List ℕ). wireOf x ++ drop (length (wireOf x)) before) e
-       ∙ ap (λ (k : ℕ). wireOf (bodyOf m f) ++ drop k before) (sym l))
+    let l : n ≡ length (wireOf (bodyOf m f)) = long ∙ ap (λ (x : List ℕ). length (wireOf x)) e in (
+      wide,
+      h,
+      l,
+      omega arith,
+      w ∙ over-start before (wireOf body) ∙ ap (λ (x : List ℕ). wireOf x ++ drop (length (wireOf x)) before) e
+          ∙ ap (λ (k : ℕ). wireOf (bodyOf m f) ++ drop k before) (sym l),
+    )

@@ -39,8 +39,8 @@ stuffed-more xs i h =
 pub stuffed-part : (xs : List ℕ) (i : ℕ) → length (stuffed (take i xs)) ≤ length (stuffed xs)
 stuffed-part xs i =
     let e : length (stuffed xs) ≡ length (stuffed (take i xs)) + length (stuffed (drop i xs)) =
-      ap (λ (l : List ℕ). length (stuffed l)) (sym (take-append-drop i xs)) ∙ ap length (stuffed-append (take i xs) (drop i xs))
-      ∙ length-append (stuffed (take i xs)) (stuffed (drop i xs)) in
+    ap (λ (l : List ℕ). length (stuffed l)) (sym (take-append-drop i xs)) ∙ ap length (stuffed-append (take i xs) (drop i xs))
+    ∙ length-append (stuffed (take i xs)) (stuffed (drop i xs)) in
     omega arith
 
 pub length-more : (xs : List ℕ) (i : ℕ) → i < length xs → length (stuffed (take (i + 1) xs)) ≡ length (stuffed (take i xs)) + length (stuff (getD xs i 0))
@@ -110,7 +110,7 @@ pub parts-wire : (f p b : List ℕ)
 parts-wire f p b =
     wire-parts (f ++ p ++ b)
     ∙ ap (λ (l : List ℕ). (170 ∷ 170 ∷ []) ++ l ++ stuffed (checkOf (f ++ p ++ b)))
-        (stuffed-append (f ++ p) b ∙ ap (λ (l : List ℕ). l ++ stuffed b) (stuffed-append f p))
+    (stuffed-append (f ++ p) b ∙ ap (λ (l : List ℕ). l ++ stuffed b) (stuffed-append f p))
 
 pub parts-length : (f p b : List ℕ)
     → length (wireOf (f ++ p ++ b)) ≡ 2 + length (stuffed f) + length (stuffed p) + length (stuffed b) + length (stuffed (checkOf (f ++ p ++ b)))
@@ -118,17 +118,17 @@ parts-length f p b =
     ap length (parts-wire f p b)
     ∙ length-append ((170 ∷ 170 ∷ []) ++ stuffed f ++ stuffed p ++ stuffed b) (stuffed (checkOf (f ++ p ++ b)))
     ∙ ap (λ (n : ℕ). n + length (stuffed (checkOf (f ++ p ++ b))))
-        (length-append ((170 ∷ 170 ∷ []) ++ stuffed f ++ stuffed p) (stuffed b)
-        ∙ ap (λ (n : ℕ). n + length (stuffed b))
-            (length-append ((170 ∷ 170 ∷ []) ++ stuffed f) (stuffed p)
-            ∙ ap (λ (n : ℕ). n + length (stuffed p)) (length-append (170 ∷ 170 ∷ []) (stuffed f))))
+    (length-append ((170 ∷ 170 ∷ []) ++ stuffed f ++ stuffed p) (stuffed b)
+    ∙ ap (λ (n : ℕ). n + length (stuffed b))
+    (length-append ((170 ∷ 170 ∷ []) ++ stuffed f) (stuffed p)
+    ∙ ap (λ (n : ℕ). n + length (stuffed p)) (length-append (170 ∷ 170 ∷ []) (stuffed f))))
 
 -- the register over three parts, one after the other
 pub parts-check : (f p b check : List ℕ) (r s t : ℕ) → r ≡ extended 65535 f → s ≡ extended r p → t ≡ extended s b → check ≡ checkBytes t → check ≡ checkOf (f ++ p ++ b)
 parts-check f p b check r s t er es et e =
     e ∙ ap checkBytes
-      (et ∙ ap (λ (x : ℕ). extended x b) (es ∙ ap (λ (x : ℕ). extended x p) er)
-      ∙ ap (λ (x : ℕ). extended x b) (sym (extended-append 65535 f p)) ∙ sym (extended-append 65535 (f ++ p) b))
+    (et ∙ ap (λ (x : ℕ). extended x b) (es ∙ ap (λ (x : ℕ). extended x p) er)
+    ∙ ap (λ (x : ℕ). extended x b) (sym (extended-append 65535 f p)) ∙ sym (extended-append 65535 (f ++ p) b))
 
 -- four pieces written one after the other are written at once
 pub over-four : (d : List ℕ) (a b c e : List ℕ) (k l m n : ℕ) → 2 + length a + length b + length c + length e ≤ length d

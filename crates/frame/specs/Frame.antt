@@ -77,5 +77,9 @@ pub record Body (d : Direction) (bytes : List ℕ) (f : Frame) : Type 0 where
 -- the frame that a body's first bytes and a payload make
 abbrev pub frameIn : List ℕ → List ℕ → Frame
 frameIn body payload = record {
-    channel = getD body 0 0; code = codeIn (getD body 1 0); reset = resetIn (getD body 1 0); toggle = toggleIn (getD body 1 0);
-    payload = payload }
+  channel = getD body 0 0;
+  code = codeIn (getD body 1 0);
+  reset = resetIn (getD body 1 0);
+  toggle = toggleIn (getD body 1 0);
+  payload = payload;
+}

@@ -105,7 +105,11 @@ fn carried_text<'a>(rest: &'a [u8]) -> Option<&'a [u8]>
         return None;
     }
     let text = &rest[0..n - 1];
-    if Form::Text.carries(text) { Some(text) } else { None }
+    if Form::Text.carries(text) {
+        Some(text)
+    } else {
+        None
+    }
 }
 
 fn carried_counted<'a>(rest: &'a [u8]) -> Option<&'a [u8]>

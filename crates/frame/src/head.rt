@@ -4,10 +4,10 @@ ghost use Prim.Native.Nat.{_<_};
 ghost use Rattle.std.specs.Options.{Cases};
 ghost use Rattle.frame.specs.Frame.{codeByte, ChannelByte, Frame, Body};
 ghost use Rattle.frame.specs.Head.{byteOf, NoHead, HeadIn, HeadOf};
+use crate::form::Direction;
 use poll::channel::Channel;
 use poll::channel::ChannelDebug;
 use poll::channel::ChannelPartialEq;
-use crate::form::Direction;
 
 /// The channel byte of the general poll.
 pub const GENERAL: u8 = 0xff;
@@ -61,7 +61,11 @@ impl Head {
         }
         let address = Address::of(body[0])?;
         let code = body[1];
-        Some(Head { address, reset: code & 0x40 != 0, toggle: code & 0x80 != 0 })
+        Some(Head {
+            address,
+            reset: code & 0x40 != 0,
+            toggle: code & 0x80 != 0,
+        })
     }
 
     /// The code byte of a frame with this head.

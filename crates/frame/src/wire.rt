@@ -65,7 +65,13 @@ pub fn write_tnc(head: Head, frame: TncFrame, wire: &mut [u8]) -> Result<usize, 
 }
 
 // Writes a frame of either direction.
-fn write(head: Head, code: u8, form: Form, payload: &[u8], wire: &mut [u8]) -> Result<usize, Refusal>
+fn write(
+    head: Head,
+    code: u8,
+    form: Form,
+    payload: &[u8],
+    wire: &mut [u8],
+) -> Result<usize, Refusal>
     requires { ⌜ code < 8 ⌝ }
     ensures { λ r. ⌜ Lays form (framed head (shows code (now (payload .entry)))) (now (wire .entry)) (now (wire .exit)) r ⌝ }
 {
@@ -77,11 +83,18 @@ fn write(head: Head, code: u8, form: Form, payload: &[u8], wire: &mut [u8]) -> R
     }
     let channel = head.address.byte();
     let code = head.code_byte(code);
-    Ok(match form {
-        Form::Bare => seal(&[channel, code], &[], &[], wire),
-        Form::Text => seal(&[channel, code], payload, &[0], wire),
-        Form::Counted => seal(&[channel, code, (payload.len() - 1) as u8], payload, &[], wire),
-    })
+    Ok(
+        match form {
+            Form::Bare => seal(&[channel, code], &[], &[], wire),
+            Form::Text => seal(&[channel, code], payload, &[0], wire),
+            Form::Counted => seal(
+                &[channel, code, (payload.len() - 1) as u8],
+                payload,
+                &[],
+                wire,
+            ),
+        },
+    )
 }
 
 // Writes the wire form of a body given in three parts.

@@ -121,7 +121,7 @@ unfolding stuffed
 first-raw [] some ne = absurd (omega arith)
 first-raw (x ∷ xs) some ne =
     subst (λ (t : Bool). (0 < length (cond t (x ∷ 0 ∷ []) (x ∷ []) ++ stuffed xs)) × (getD (cond t (x ∷ 0 ∷ []) (x ∷ []) ++ stuffed xs) 0 0 ≡ x))
-      (sym (ne-eqb x 170 ne)) (omega arith, refl)
+    (sym (ne-eqb x 170 ne)) (omega arith, refl)
 
 -- the raw bytes of a frame under way, with the one that is heard now
 from-channel : (xs extra : List ℕ) (y : ℕ) → 0 < length xs → (getD xs 0 0 ≡ 170 → ⊥) → length extra ≤ 1 → FromChannel (stuffed xs ++ extra ++ y ∷ [])
@@ -135,16 +135,17 @@ from-channel xs extra y some ne few =
       some = omega arith;
       first = λ e. ne (sym (f .1) ∙ sym (getD-append-left s extra 0 0 (f .0)) ∙ sym (getD-append-left w (y ∷ []) 0 0 (omega (arith, f .0))) ∙ e);
       no-start = λ k l e g.
-        let in-w : k + 1 < length w = omega arith in
-        ⊎-elim
+          let in-w : k + 1 < length w = omega arith in
+          ⊎-elim
           (λ less.
-            let r = followed xs k less (sym (getD-append-left s extra 0 k less) ∙ sym (getD-append-left w (y ∷ []) 0 k (omega arith)) ∙ e) in
-            let one : k + 1 ≡ suc k = omega arith in
-            let z : getD (w ++ y ∷ []) (k + 1) 0 ≡ 0 =
-              getD-append-left w (y ∷ []) 0 (k + 1) in-w ∙ ap (λ (i : ℕ). getD w i 0) one ∙ getD-append-left s extra 0 (suc k) (r .0) ∙ r .1 in
-            omega arith)
+          let r = followed xs k less (sym (getD-append-left s extra 0 k less) ∙ sym (getD-append-left w (y ∷ []) 0 k (omega arith)) ∙ e) in
+          let one : k + 1 ≡ suc k = omega arith in
+          let z : getD (w ++ y ∷ []) (k + 1) 0 ≡ 0 =
+          getD-append-left w (y ∷ []) 0 (k + 1) in-w ∙ ap (λ (i : ℕ). getD w i 0) one ∙ getD-append-left s extra 0 (suc k) (r .0) ∙ r .1 in
+          omega arith)
           (λ more. omega arith)
-          (cases-lt k (length s)) }
+          (cases-lt k (length s));
+    }
 
 abbrev Counted : List ℕ → Fault → Type 0
 Counted heard e = (front : List ℕ) × (raw : List ℕ) × (heard ≡ front ++ (170 ∷ 170 ∷ raw)) × (length raw ≡ e .count) × FromChannel raw
@@ -155,20 +156,26 @@ under-counted d p bs n heard extra y e u few c =
     let xs = bs ++ held p in
     let w = stuffed xs ++ extra in
     let some : 0 < length xs = omega (arith, length-append bs (held p), u .some) in
-    let first : getD xs 0 0 ≡ 170 → ⊥ = λ z. u .first (sym (getD-append-left bs (held p) 0 0 (u .some)) ∙ z) in
-    (u .front, w ++ y ∷ [],
-     ap (λ (l : List ℕ). l ++ y ∷ []) (u .line) ∙ append-assoc (u .front) (170 ∷ 170 ∷ w) (y ∷ []),
-     omega (arith, length-append w (y ∷ []), u .count),
-     from-channel xs extra y some first few)
+    let first : getD xs 0 0 ≡ 170 → ⊥ = λ z. u .first (sym (getD-append-left bs (held p) 0 0 (u .some)) ∙ z) in (
+      u .front,
+      w ++ y ∷ [],
+      ap (λ (l : List ℕ). l ++ y ∷ []) (u .line) ∙ append-assoc (u .front) (170 ∷ 170 ∷ w) (y ∷ []),
+      omega (arith, length-append w (y ∷ []), u .count),
+      from-channel xs extra y some first few,
+    )
 
 started-counted : (d : Direction) (heard : List ℕ) (b : ℕ) (e : Fault) → TracksAt d heard Started [] 0 → hearsAt d Started [] 0 b .says ≡ Err e → Counted (heard ++ b ∷ []) e
 started-counted d heard b e h q =
     ⊎-elim
-      (λ t. absurd (silent e (sym (ap (λ (u : Bool). cond u (goes (at d Started [] 0)) (withChannel d b) .says) t) ∙ q)))
-      (λ f. (h .0, b ∷ [], ap (λ (l : List ℕ). l ++ b ∷ []) (h .1) ∙ append-assoc (h .0) (170 ∷ 170 ∷ []) (b ∷ []),
-        sym (either 1 (eqb b 170) _ _ (calm 1) (either 1 (isChannel b) _ _ (calm 1) (fault BadChannel 1)) e q),
-        record { some = omega arith; first = eqb-false b 170 f; no-start = λ k l x y. omega arith }))
-      (cases-bool (eqb b 170))
+    (λ t. absurd (silent e (sym (ap (λ (u : Bool). cond u (goes (at d Started [] 0)) (withChannel d b) .says) t) ∙ q)))
+    (λ f. (
+      h .0,
+      b ∷ [],
+      ap (λ (l : List ℕ). l ++ b ∷ []) (h .1) ∙ append-assoc (h .0) (170 ∷ 170 ∷ []) (b ∷ []),
+      sym (either 1 (eqb b 170) _ _ (calm 1) (either 1 (isChannel b) _ _ (calm 1) (fault BadChannel 1)) e q),
+      record { some = omega arith; first = eqb-false b 170 f; no-start = λ k l x y. omega arith },
+    ))
+    (cases-bool (eqb b 170))
 
 counted-at : (d : Direction) (heard : List ℕ) (s : State) (bs : List ℕ) (n b : ℕ) (e : Fault) → TracksAt d heard s bs n → hearsAt d s bs n b .says ≡ Err e → Counted (heard ++ b ∷ []) e
 counted-at d heard Waiting bs n b e h q = absurd (quiet (eqb b 170) _ _ e q)

@@ -15,12 +15,12 @@ use crate::fault::Reason;
 use crate::state::Heard;
 use crate::state::Part;
 use crate::state::State;
-use poll::channel::LAST_CHANNEL;
 use frame::form::Direction;
 use frame::form::Form;
 use frame::form::TEXT;
 use frame::head::GENERAL;
 use frame::wire::MARK;
+use poll::channel::LAST_CHANNEL;
 
 impl Reader {
     /// A reader of one direction that has heard nothing.
@@ -30,7 +30,14 @@ impl Reader {
         ensures one_wire_form { λ _. ⌜ One-wire-form direction ⌝ }
         ensures counts { λ _. ⌜ Counts-raw direction ⌝ }
     {
-        Reader { direction, state: State::Waiting, body: [0; BODY], len: 0, register: fcs::START, raw: 0 }
+        Reader {
+            direction,
+            state: State::Waiting,
+            body: [0; BODY],
+            len: 0,
+            register: fcs::START,
+            raw: 0,
+        }
     }
 
     /// The body that passed with the last byte, if one did.
@@ -79,7 +86,11 @@ impl Reader {
         ensures after { λ _. ⌜ meaning (now (self .exit)) ≡ at (now (self .entry) .direction) state [] 0 ⌝ }
         ensures answer { λ r. ⌜ r ≡ faulty reason (now (self .entry) .raw + 1) (fresh (now (self .entry) .direction)) .says ⌝ }
     {
-        let fault = Fault { layer: Layer::Reader, reason, count: self.raw + 1 };
+        let fault = Fault {
+            layer: Layer::Reader,
+            reason,
+            count: self.raw + 1,
+        };
         self.clear(state);
         Err(fault)
     }

@@ -15,8 +15,9 @@ returns-then-n-eq0 c = λ p h e.
     let rest = c .args .rest .now in
     let l : length rest - 1 ≡ getD rest 0 0 + 1 = counted-count rest p e (h .0) in
     elim (c .then-n-eq0 .came) [
-      then-n-eq0·by·then-n-eq0 w ↦ omega (arith, w .if-n-eq0 .taken)
-    | then-n-eq0·by·else-n-eq0·then-n-rest w ↦ w .if-n-rest .taken l ]
+      | then-n-eq0·by·then-n-eq0 w ↦ omega (arith, w .if-n-eq0 .taken)
+      | then-n-eq0·by·else-n-eq0·then-n-rest w ↦ w .if-n-rest .taken l
+    ]
 
 pub returns : need.returns
 returns c =
@@ -24,6 +25,7 @@ returns c =
     let part = take-rest rest 1 in
     let l = length-drop 1 rest in
     let fits : getD rest 0 0 < 256 = c .typed .rest 0 .fits in
-    let n : length (take (length rest - 1) (drop 1 rest)) ≡ length rest - 1 = ap length part ∙ l in
-    ((omega arith, omega arith)
-    , counted-split rest (omega arith) (c .if-n-rest .left) ∙ ap (λ (q : List ℕ). (length q - 1) ∷ q) (sym part))
+    let n : length (take (length rest - 1) (drop 1 rest)) ≡ length rest - 1 = ap length part ∙ l in (
+      (omega arith, omega arith),
+      counted-split rest (omega arith) (c .if-n-rest .left) ∙ ap (λ (q : List ℕ). (length q - 1) ∷ q) (sym part),
+    )

@@ -19,14 +19,16 @@ pub returns-then-n-eq0 : need.returns-then-n-eq0
 returns-then-n-eq0 c = λ p h e.
     let t = text-last (c .args .rest .now) p e in
     elim (c .then-n-eq0 .came) [
-      then-n-eq0·by·then-n-eq0 w ↦ omega (arith, w .if-n-eq0 .taken)
-    | then-n-eq0·by·else-n-eq0·then-rest-n-ne0 w ↦ w .if-rest-n-ne0 .taken (t .1) ]
+      | then-n-eq0·by·then-n-eq0 w ↦ omega (arith, w .if-n-eq0 .taken)
+      | then-n-eq0·by·else-n-eq0·then-rest-n-ne0 w ↦ w .if-rest-n-ne0 .taken (t .1)
+    ]
 
 pub returns-then-carries : need.returns-then-carries
 returns-then-carries c =
-    let rest = c .args .rest .now in
-    (c .if-carries .ensures tt
-    , text-split rest (omega arith) (c .if-rest-n-ne0 .left) ∙ ap (λ (l : List ℕ). l ++ 0 ∷ []) (sym (part rest)))
+    let rest = c .args .rest .now in (
+      c .if-carries .ensures tt,
+      text-split rest (omega arith) (c .if-rest-n-ne0 .left) ∙ ap (λ (l : List ℕ). l ++ 0 ∷ []) (sym (part rest)),
+    )
 
 pub returns-else-carries : need.returns-else-carries
 returns-else-carries c = λ p h e.

@@ -19,6 +19,6 @@ pub returns : need.returns
 returns c =
     let body = c .args .body .now in
     payload-found (c .args .direction) (c .in-Continue-form .form) body _ (c .carried .result)
-      (omega arith) (c .in-Continue-of .ensures tt .1) (c .typed .body 1 .fits)
-      (ap (formOf (c .args .direction)) (sym (and-mask (getD body 1 0) 6)) ∙ sym (c .of-2 .ensures) ∙ c .in-Continue-form .was tt)
-      (take-rest body 2) (c .carried .ensures)
+    (omega arith) (c .in-Continue-of .ensures tt .1) (c .typed .body 1 .fits)
+    (ap (formOf (c .args .direction)) (sym (and-mask (getD body 1 0) 6)) ∙ sym (c .of-2 .ensures) ∙ c .in-Continue-form .was tt)
+    (take-rest body 2) (c .carried .ensures)

@@ -27,10 +27,17 @@ put-all-n-requires-3 c κs = omega (arith, c .pre, simp length-set at (c .put-al
 pub put-all-requires : need.put-all-requires
 put-all-requires c κs =
     let check = parts-check (c .args .front .now) (c .args .payload .now) (c .args .back .now) (c .checksum-check .result)
-      (c .extend .result) (c .extend-2 .result) (c .extend-register .result)
-      (c .extend .ensures .value) (c .extend-2 .ensures .value) (c .extend-register .ensures .value) (c .checksum-check .ensures .value) in
-    omega (arith, c .pre, simp length-set at (c .put-all-n .kept .wire), c .put-all-n-2 .kept .wire, c .put-all-n-3 .kept .wire,
-      parts-length (c .args .front .now) (c .args .payload .now) (c .args .back .now), ap (λ (l : List ℕ). length (stuffed l)) check)
+    (c .extend .result) (c .extend-2 .result) (c .extend-register .result)
+    (c .extend .ensures .value) (c .extend-2 .ensures .value) (c .extend-register .ensures .value) (c .checksum-check .ensures .value) in
+    omega (
+      arith,
+      c .pre,
+      simp length-set at (c .put-all-n .kept .wire),
+      c .put-all-n-2 .kept .wire,
+      c .put-all-n-3 .kept .wire,
+      parts-length (c .args .front .now) (c .args .payload .now) (c .args .back .now),
+      ap (λ (l : List ℕ). length (stuffed l)) check,
+    )
 
 pub returns : need.returns
 returns c =
@@ -39,11 +46,11 @@ returns c =
     let b = c .args .back .now in
     let wire = c .args .wire .now in
     let check = parts-check f p b (c .checksum-check .result) (c .extend .result) (c .extend-2 .result) (c .extend-register .result)
-      (c .extend .ensures .value) (c .extend-2 .ensures .value) (c .extend-register .ensures .value) (c .checksum-check .ensures .value) in
+    (c .extend .ensures .value) (c .extend-2 .ensures .value) (c .extend-register .ensures .value) (c .checksum-check .ensures .value) in
     let l = parts-length f p b in
     let k = ap (λ (x : List ℕ). length (stuffed x)) check in
     let marks = over-marks wire (omega (arith, c .pre)) in
     let four = over-four wire (stuffed f) (stuffed p) (stuffed b) (stuffed (checkOf (f ++ p ++ b))) 2 (c .put-all-n .result) (c .put-all-n-2 .result) (c .put-all-n-3 .result)
-      (omega (arith, c .pre)) refl (c .put-all-n .ensures .next) (c .put-all-n-2 .ensures .next) (c .put-all-n-3 .ensures .next) in
+    (omega (arith, c .pre)) refl (c .put-all-n .ensures .next) (c .put-all-n-2 .ensures .next) (c .put-all-n-3 .ensures .next) in
     let form = parts-wire f p b in
     record { length = omega (arith, c .put-all .ensures .next); after = cc }

@@ -16,8 +16,9 @@ code-of-requires c κs = long-enough FromHost (c .args .body .now) _ (c .in-Cont
 
 pub returns-in-Break-payload : need.returns-in-Break-payload
 returns-in-Break-payload c = record {
-    reads = subst (λ (r : Option HostFrame). Reads FromHost (c .args .body .now) (mapped hostShows r)) (sym (c .from-residual .ensures)) (c .in-Break-payload .ensures tt);
-    built = λ f b. absurd (c .in-Break-payload .ensures tt f b) }
+  reads = subst (λ (r : Option HostFrame). Reads FromHost (c .args .body .now) (mapped hostShows r)) (sym (c .from-residual .ensures)) (c .in-Break-payload .ensures tt);
+  built = λ f b. absurd (c .in-Break-payload .ensures tt f b);
+}
 
 pub returns-in-0 : need.returns-in-0
 returns-in-0 c =

@@ -17,8 +17,9 @@ code-of-requires c κs = long-enough FromTnc (c .args .body .now) _ (c .in-Conti
 
 pub returns-in-Break-payload : need.returns-in-Break-payload
 returns-in-Break-payload c = record {
-    reads = subst (λ (r : Option TncFrame). Reads FromTnc (c .args .body .now) (mapped tncShows r)) (sym (c .from-residual .ensures)) (c .in-Break-payload .ensures tt);
-    built = λ f b. absurd (c .in-Break-payload .ensures tt f b) }
+  reads = subst (λ (r : Option TncFrame). Reads FromTnc (c .args .body .now) (mapped tncShows r)) (sym (c .from-residual .ensures)) (c .in-Break-payload .ensures tt);
+  built = λ f b. absurd (c .in-Break-payload .ensures tt f b);
+}
 
 pub returns-in-0 : need.returns-in-0
 returns-in-0 c =

@@ -14,9 +14,13 @@ use Rattle.reader.proofs.reader.Reader.keep.Needs as need
 pub ghost-self : need.ghost-self
 ghost-self c =
     let r = c .args .self .now in
-    let h : r .len < length (r .body) = omega (arith, c .pre .room) in
-    (omega (arith, c .pre .room), (omega (arith, c .pre .raw),
-     (c .step-self .ensures .value ∙ ap (λ (x : ℕ). stepOf x (c .args .b)) (r .summed) ∙ sym (register-more (r .body) (r .len) (c .args .b) h), tt)))
+    let h : r .len < length (r .body) = omega (arith, c .pre .room) in (
+      omega (arith, c .pre .room),
+      (
+        omega (arith, c .pre .raw),
+        (c .step-self .ensures .value ∙ ap (λ (x : ℕ). stepOf x (c .args .b)) (r .summed) ∙ sym (register-more (r .body) (r .len) (c .args .b) h), tt),
+      ),
+    )
 
 pub returns : need.returns
 returns c =
