@@ -1,14 +1,13 @@
 -- The cases that are proved, together, as one fact of the rules.
 use mathlib.Core.Path.{_≡_}
 use mathlib.Core.Bool.{true, false}
-use mathlib.Core.List.{List, [], _∷_, _++_}
+use mathlib.Core.List.{List, [], _∷_}
 use Prim.Native.Nat.{ℕ}
 use lib.ListN.{length, replicate}
 use Rattle.std.specs.declared.result.Result.{Result}
 use Rattle.std.specs.declared.result.Result.the-variants.{Ok, Err}
 use Rattle.poll.specs.List.{listOf}
 use Rattle.frame.specs.declared.form.Direction.{Direction}
-use Rattle.frame.specs.declared.form.Direction.the-variants.{FromHost, FromTnc}
 use Rattle.frame.specs.declared.form.Form.the-variants as form
 use Rattle.frame.specs.declared.wire.Refusal.{Refusal}
 use Rattle.frame.specs.declared.wire.Refusal.the-variants.{ShortWire}

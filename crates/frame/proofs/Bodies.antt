@@ -1,11 +1,9 @@
 -- Bodies and frames: a body is that of one frame at most, and its payload makes that frame.
 use mathlib.Core.Path.{_≡_, refl, sym, ap, _∙_, subst}
-use mathlib.Core.Bool.{Bool, true, false}
-use mathlib.Core.List.{List, [], _∷_, _++_}
-use mathlib.Core.Logic.{_⊎_, inl, inr, ⊎-elim}
-use Prim.Native.Nat.{ℕ, _+_, _-_, _<_, _≤_}
+use mathlib.Core.List.{List, [], _∷_}
+use mathlib.Core.Logic.{⊎-elim}
+use Prim.Native.Nat.{ℕ, _<_, _≤_}
 use native.Mathlib.Omega.{arith}
-use lib.Dec.{eqb, ltb}
 use lib.ListN.{length, getD, drop}
 use denote.Ref.{RefT}
 use Rattle.std.proofs.shelf.Lists.{nil-from-length}
@@ -16,8 +14,8 @@ use Rattle.std.specs.declared.option.Option.the-variants.{Some, None}
 use Rattle.frame.specs.declared.form.Direction.{Direction}
 use Rattle.frame.specs.declared.form.Direction.the-variants.{FromHost, FromTnc}
 use Rattle.frame.specs.declared.form.Form.{Form}
-use Rattle.frame.specs.declared.form.Form.the-variants.{Bare, Text, Counted}
-use Rattle.frame.specs.Frame.{formOf, codeByte, codeIn, resetIn, toggleIn, ChannelByte, Carries, carried, Frame, bodyOf, Sendable, Body, frameIn}
+use Rattle.frame.specs.declared.form.Form.the-variants.{Bare}
+use Rattle.frame.specs.Frame.{formOf, codeByte, codeIn, resetIn, toggleIn, ChannelByte, Carries, carried, Frame, Body, frameIn}
 use Rattle.frame.specs.declared.head.Head.{Head}
 use Rattle.frame.specs.Head.{HeadIn, HeadOf}
 use Rattle.frame.specs.Kinds.{Shown, shownIn, Holds, PayloadOf, Reads, Built}

@@ -1,25 +1,20 @@
 -- No wire form is longer than 521, and what the writer does with a frame follows.
-use mathlib.Core.Path.{_≡_, refl, sym, ap, _∙_, subst}
+use mathlib.Core.Path.{_≡_, refl, sym, ap, _∙_}
 use mathlib.Core.List.{List, [], _∷_, _++_}
-use mathlib.Core.Logic.{_⊎_, inl, inr, ⊎-elim}
-use Prim.Native.Nat.{ℕ, _+_, _-_, _*_, _<_, _≤_}
+use mathlib.Core.Logic.{inl, inr, ⊎-elim}
+use Prim.Native.Nat.{ℕ, _-_, _<_, _≤_}
 use native.Mathlib.Omega.{arith}
 use lib.ListN.{length, drop, length-append}
 use Rattle.std.proofs.shelf.Tests.{cases-lt}
-use Rattle.std.specs.declared.result.Result.{Result}
-use Rattle.std.specs.declared.result.Result.the-variants.{Ok, Err}
-use Rattle.std.specs.declared.option.Option.the-variants.{Some}
+use Rattle.std.specs.declared.result.Result.the-variants.{Ok}
 use Rattle.fcs.specs.Fcs.{checkOf}
-use Rattle.frame.specs.declared.form.Direction.{Direction}
 use Rattle.frame.specs.declared.form.Form.{Form}
 use Rattle.frame.specs.declared.form.Form.the-variants.{Bare, Text, Counted}
 use Rattle.frame.specs.declared.head.Address.{Address}
 use Rattle.frame.specs.declared.head.Address.the-variants.{Channel, General}
-use Rattle.frame.specs.declared.wire.Refusal.{Refusal}
-use Rattle.frame.specs.declared.wire.Refusal.the-variants.{ShortWire, BadPayload}
-use Rattle.frame.specs.Frame.{formOf, codeByte, ChannelByte, Carries, carried, Frame, bodyOf, Body}
+use Rattle.frame.specs.Frame.{codeByte, ChannelByte, Carries, carried, Frame, bodyOf}
 use Rattle.frame.specs.Head.{byteOf}
-use Rattle.frame.specs.Wire.{stuff, stuffed, wireOf, over, Writes, Lays}
+use Rattle.frame.specs.Wire.{stuffed, wireOf, over, Lays}
 use Rattle.frame.proofs.Bits.{code-no-mark}
 use Rattle.frame.proofs.Stuffing.{length-wire, length-other, length-most, length-cons, stuffed-double, stuffed-append, stuffed-one, over-start}
 

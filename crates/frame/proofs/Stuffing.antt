@@ -3,16 +3,15 @@ use mathlib.Core.Path.{_≡_, refl, sym, ap, ap₂, _∙_, subst}
 use mathlib.Core.Bool.{cond, true, false}
 use mathlib.Core.List.{List, [], _∷_, _++_, append-assoc, append-nil}
 use Prim.Native.Nat.{ℕ, _+_, _*_, _≤_, _<_}
-use native.Mathlib.Nat.{add-zero, zero-add}
+use native.Mathlib.Nat.{zero-add}
 use native.Mathlib.Numerals.{add-one}
 use native.Mathlib.Omega.{arith}
 use lib.Dec.{eqb}
 use lib.ListN.{length, take, drop, getD, set, length-append}
 use lib.Seq.{paste}
-use Rattle.std.specs.Joined.{joined}
 use Rattle.std.proofs.shelf.Lists.{take-more, set-split, take-append-drop, take-all}
 use Rattle.std.proofs.shelf.Edits.{paste-none, paste-paste, length-paste, take-paste, drop-paste}
-use Rattle.std.proofs.shelf.Tests.{cond-true, cond-false, eq-eqb, ne-eqb}
+use Rattle.std.proofs.shelf.Tests.{cond-false, ne-eqb}
 use Rattle.fcs.specs.Fcs.{extended, checkBytes, checkOf}
 use Rattle.fcs.proofs.Extended.{extended-append}
 use Rattle.frame.specs.Wire.{stuff, stuffed, over, wireOf}

@@ -1,8 +1,8 @@
 -- The kinds of frames: the code of each and what it shows, and what it means that a body is read as one.
 use mathlib.Core.Path.{_≡_}
 use mathlib.Core.List.{List, []}
-use Prim.Native.Nat.{ℕ, _+_, _-_, _<_, _≤_}
-use lib.ListN.{length, getD, drop}
+use Prim.Native.Nat.{ℕ}
+use lib.ListN.{getD}
 use denote.Ref.{RefT}
 use Rattle.std.specs.declared.option.Option.{Option}
 use Rattle.std.specs.declared.option.Option.the-variants.{Some, None}

@@ -1,9 +1,9 @@
 -- One wire form for each frame, and the counts of faults.
 use mathlib.Core.Path.{_≡_, refl, sym, ap, _∙_, subst}
 use mathlib.Core.Bool.{Bool, true, false, cond}
-use mathlib.Core.Logic.{_⊎_, inl, inr, ⊎-elim}
-use mathlib.Core.List.{List, [], _∷_, _++_, append-assoc, append-nil}
-use Prim.Native.Nat.{ℕ, zero, suc, _+_, _-_, _<_, _≤_}
+use mathlib.Core.Logic.{⊎-elim}
+use mathlib.Core.List.{List, [], _∷_, _++_, append-assoc}
+use Prim.Native.Nat.{ℕ, zero, suc, _+_, _<_, _≤_}
 use native.Mathlib.Omega.{arith}
 use lib.Dec.{eqb, ltb}
 use lib.ListN.{length, getD, length-append}
@@ -17,7 +17,7 @@ use Rattle.fcs.specs.Fcs.{extended, registerOf, residue}
 use Rattle.frame.specs.declared.form.Direction.{Direction}
 use Rattle.frame.specs.declared.form.Form.{Form}
 use Rattle.frame.specs.Frame.{formOf, codeIn, Frame, Body}
-use Rattle.frame.specs.Wire.{stuff, stuffed, wireOf}
+use Rattle.frame.specs.Wire.{stuffed, wireOf}
 use Rattle.reader.specs.declared.fault.Fault.{Fault}
 use Rattle.reader.specs.declared.fault.Reason.{Reason}
 use Rattle.reader.specs.declared.fault.Reason.the-variants.{StrayMark, BadChannel, UnknownCode, EndlessText, BadChecksum, NewFrame}
@@ -28,8 +28,7 @@ use Rattle.reader.specs.declared.state.Heard.the-variants.{More}
 use Rattle.reader.specs.declared.state.Heard.the-variants as heard
 use Rattle.reader.specs.declared.state.State.{State}
 use Rattle.reader.specs.declared.state.State.the-variants.{Waiting, Marked, Started, Inside, Escaped, Passed}
-use Rattle.reader.specs.State.{partOf}
-use Rattle.reader.specs.Read.{Meaning, Next, at, fresh, passed, passedAt, goes, faultOf, faulty, isChannel, withChannel, withCode, withByte, hearsAt, hears}
+use Rattle.reader.specs.Read.{Meaning, Next, at, fresh, passedAt, goes, faultOf, isChannel, withChannel, withCode, withByte, hearsAt}
 use Rattle.reader.specs.Laws.{Bytes, after, One-wire-form, FromChannel, Counts-raw}
 use Rattle.reader.proofs.Runs.{direction-kept}
 use Rattle.reader.proofs.Tracks.{held, Under, TracksAt, Tracks, run-tracks}

@@ -1,17 +1,11 @@
 -- The reader's fields: the register over one byte more, and the bounds of the counts.
-use mathlib.Core.Path.{_≡_, refl, sym, ap, _∙_}
-use mathlib.Core.List.{List, [], _∷_, _++_}
-use Prim.Native.Nat.{ℕ, _+_, _<_, _≤_}
-use native.Mathlib.Omega.{arith}
+use mathlib.Core.Path.{_≡_, refl, ap, _∙_}
+use mathlib.Core.List.{List, [], _∷_}
+use Prim.Native.Nat.{ℕ, _+_, _<_}
 use lib.ListN.{length, take, set}
 use Rattle.std.proofs.shelf.Lists.{take-more-set}
 use Rattle.fcs.specs.Fcs.{stepOf, extended, registerOf}
 use Rattle.fcs.proofs.Extended.{extended-append}
-use Rattle.reader.specs.declared.state.Part.{Part}
-use Rattle.reader.specs.declared.state.Part.the-variants.{Code, Count, Block, Text, Low, High}
-use Rattle.reader.specs.declared.state.State.{State}
-use Rattle.reader.specs.declared.state.State.the-variants.{Waiting, Marked, Started, Inside, Escaped, Passed}
-use Rattle.reader.specs.State.{outside, outsideOf}
 
 pub register-none : registerOf [] ≡ 65535
 unfolding extended

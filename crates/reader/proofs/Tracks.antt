@@ -1,9 +1,9 @@
 -- What a reader that began fresh knows of the bytes it has heard: the line ends in AA AA and the stuffed bytes of the frame so far.
 use mathlib.Core.Path.{_≡_, refl, sym, ap, ap₂, _∙_, subst}
 use mathlib.Core.Bool.{Bool, true, false, cond}
-use mathlib.Core.Logic.{_⊎_, inl, inr, ⊎-elim}
+use mathlib.Core.Logic.{inl, inr, ⊎-elim}
 use mathlib.Core.List.{List, [], _∷_, _++_, append-assoc, append-nil}
-use Prim.Native.Nat.{ℕ, zero, suc, _+_, _-_, _<_, _≤_}
+use Prim.Native.Nat.{ℕ, suc, _+_, _-_, _<_, _≤_}
 use native.Mathlib.Omega.{arith}
 use lib.Dec.{eqb, ltb, leb}
 use lib.ListN.{length, getD, length-append}
@@ -18,7 +18,7 @@ use Rattle.fcs.proofs.Residue.{only-checksum}
 use Rattle.frame.specs.declared.form.Direction.{Direction}
 use Rattle.frame.specs.declared.form.Form.{Form}
 use Rattle.frame.specs.declared.form.Form.the-variants as form
-use Rattle.frame.specs.Frame.{formOf, codeByte, codeIn, resetIn, toggleIn, ChannelByte, NoZero, Carries, carried, Frame, bodyOf, Sendable, Body}
+use Rattle.frame.specs.Frame.{formOf, codeIn, resetIn, toggleIn, ChannelByte, NoZero, Carries, carried, Frame, Body}
 use Rattle.frame.specs.Wire.{stuff, stuffed, wireOf}
 use Rattle.frame.proofs.Bits.{code-back}
 use Rattle.frame.proofs.Stuffing.{stuffed-append, stuffed-one}
@@ -27,7 +27,7 @@ use Rattle.reader.specs.declared.state.Part.the-variants.{Code, Count, Block, 
 use Rattle.reader.specs.declared.state.State.{State}
 use Rattle.reader.specs.declared.state.State.the-variants.{Waiting, Marked, Started, Inside, Escaped, Passed}
 use Rattle.reader.specs.State.{partOf}
-use Rattle.reader.specs.Read.{Meaning, Next, at, inside, isChannel, withChannel, withCode, withByte, hearsAt, hears}
+use Rattle.reader.specs.Read.{Meaning, Next, isChannel, withChannel, withCode, withByte, hearsAt, hears}
 use Rattle.reader.specs.Laws.{Bytes, after}
 
 -- one element more

@@ -1,15 +1,15 @@
 -- The round trip: two AA start a frame from any state, and each part of its body is heard in turn, up to a good checksum.
 use mathlib.Core.Path.{_≡_, refl, sym, ap, _∙_, subst}
 use mathlib.Core.Bool.{Bool, true, false, cond}
-use mathlib.Core.Logic.{inl, inr, ⊎-elim}
-use mathlib.Core.List.{List, [], _∷_, _++_, append-assoc, append-nil}
-use Prim.Native.Nat.{ℕ, suc, _+_, _-_, _<_, _≤_}
+use mathlib.Core.Logic.{⊎-elim}
+use mathlib.Core.List.{List, [], _∷_, _++_, append-assoc}
+use Prim.Native.Nat.{ℕ, suc, _+_, _-_, _≤_}
 use native.Mathlib.Omega.{arith}
-use lib.Dec.{eqb, ltb, leb}
+use lib.Dec.{eqb, ltb}
 use lib.ListN.{length, getD, length-append}
 use Rattle.std.specs.declared.option.Option.{Option}
-use Rattle.std.specs.declared.option.Option.the-variants.{Some, None}
-use Rattle.std.specs.declared.result.Result.the-variants.{Ok, Err}
+use Rattle.std.specs.declared.option.Option.the-variants.{Some}
+use Rattle.std.specs.declared.result.Result.the-variants.{Ok}
 use Rattle.std.proofs.shelf.Tests.{cases-bool, eqb-true, eq-eqb, ne-eqb, lt-ltb, le-ltb}
 use Rattle.std.proofs.shelf.Ways.{tells}
 use Rattle.fcs.specs.Fcs.{extended, registerOf, residue, checkOf}
@@ -17,16 +17,15 @@ use Rattle.fcs.proofs.Residue.{leaves-residue}
 use Rattle.frame.specs.declared.form.Direction.{Direction}
 use Rattle.frame.specs.declared.form.Form.{Form}
 use Rattle.frame.specs.declared.form.Form.the-variants as form
-use Rattle.frame.specs.Frame.{formOf, codeByte, codeIn, ChannelByte, NoZero, Carries, carried, Frame, bodyOf, Body}
+use Rattle.frame.specs.Frame.{formOf, codeByte, codeIn, ChannelByte, NoZero, Carries, carried, Frame, bodyOf}
 use Rattle.frame.specs.Wire.{stuff, stuffed, wireOf}
 use Rattle.frame.proofs.Bits.{code-in}
 use Rattle.frame.proofs.Bodies.{known-code}
 use Rattle.reader.specs.declared.state.Part.{Part}
 use Rattle.reader.specs.declared.state.Part.the-variants.{Code, Count, Block, Text, Low, High}
-use Rattle.reader.specs.declared.state.State.{State}
 use Rattle.reader.specs.declared.state.State.the-variants.{Waiting, Marked, Started, Inside, Escaped, Passed}
 use Rattle.reader.specs.State.{partOf}
-use Rattle.reader.specs.Read.{Meaning, Next, at, inside, isChannel, withChannel, withCode, withByte, hearsAt, hears}
+use Rattle.reader.specs.Read.{Meaning, Next, at, inside, isChannel, withChannel, withCode, withByte}
 use Rattle.reader.specs.Laws.{Event, eventsOf, after, events, cut, Round-trip}
 use Rattle.reader.proofs.Runs.{events-append, after-append, direction-kept}
 

@@ -1,5 +1,5 @@
 -- The payload that the rest of a body holds is that of the frame whose body it is.
-use mathlib.Core.Path.{_≡_, ap, _∙_, sym, subst}
+use mathlib.Core.Path.{ap, _∙_, sym, subst}
 use native.Mathlib.Omega.{arith}
 use lib.ListN.{getD}
 use lib.Bits.{and-mask}

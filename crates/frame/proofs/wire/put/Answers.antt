@@ -1,6 +1,5 @@
 -- One byte: 00 goes after AA, and after nothing else.
 use borrow.Author.Needs.{needs}
-use native.Mathlib.Omega.{arith}
 use Rattle.frame.proofs.Stuffing.{put-mark, put-other}
 use Rattle.frame.proofs.wire.put.Needs as need
 

@@ -1,13 +1,11 @@
 -- One byte more is stuffed after those before it.
-use borrow.Author.Needs.{needs}
-use mathlib.Core.Path.{_≡_, refl, sym, ap, _∙_}
 use Prim.Native.Nat.{_+_, _<_}
 use native.Mathlib.Nat.{add-zero}
 use native.Mathlib.Omega.{arith}
 use lib.ListN.{length, take, getD}
 use Rattle.std.proofs.shelf.Lists.{take-all}
 use Rattle.frame.specs.Wire.{stuffed, stuff}
-use Rattle.frame.proofs.Stuffing.{stuffed-none, stuffed-more, stuffed-part, length-more, over-none, over-over, length-over}
+use Rattle.frame.proofs.Stuffing.{stuffed-none, stuffed-more, stuffed-part, length-more, over-none, over-over}
 use Rattle.frame.proofs.wire.put_all.Needs as need
 
 pub loop-b-holds : need.loop-b-holds

@@ -1,11 +1,11 @@
 -- Marks, parts and checksum are written one after the other, so the whole is the wire form.
-use mathlib.Core.Path.{_≡_, refl, sym, ap, _∙_}
-use mathlib.Core.List.{List, [], _∷_, _++_}
-use Prim.Native.Nat.{ℕ, _+_, _≤_, _<_}
+use mathlib.Core.Path.{refl, ap}
+use mathlib.Core.List.{List, _++_}
+use Prim.Native.Nat.{ℕ}
 use native.Mathlib.Omega.{arith}
 use lib.ListN.{length, length-set}
 use Rattle.fcs.specs.Fcs.{checkOf}
-use Rattle.frame.specs.Wire.{stuffed, over, wireOf}
+use Rattle.frame.specs.Wire.{stuffed}
 use Rattle.frame.proofs.Stuffing.{parts-wire, parts-length, parts-check, over-marks, over-four}
 use Rattle.frame.proofs.wire.seal.Needs as need
 

@@ -1,13 +1,13 @@
 -- Each form's parts make the body, which fits.
-use mathlib.Core.Path.{_≡_, refl, sym, ap, ap₂, _∙_, subst}
-use mathlib.Core.List.{List, [], _∷_, _++_, append-nil}
+use mathlib.Core.Path.{_≡_, refl, sym, ap, ap₂, _∙_}
+use mathlib.Core.List.{List, [], _∷_, append-nil}
 use Prim.Native.Nat.{ℕ, _-_}
 use native.Mathlib.Omega.{arith}
 use lib.ListN.{length}
 use Rattle.frame.specs.declared.form.Form.{Form}
 use Rattle.frame.specs.declared.form.Form.the-variants.{Bare, Text, Counted}
-use Rattle.frame.specs.Frame.{Frame, Carries, codeByte, carried, bodyOf}
-use Rattle.frame.specs.Head.{byteOf, framed}
+use Rattle.frame.specs.Frame.{Frame, codeByte, carried, bodyOf}
+use Rattle.frame.specs.Head.{framed}
 use Rattle.frame.specs.Kinds.{shows}
 use Rattle.frame.proofs.Short.{address-byte, room, laid}
 use Rattle.frame.proofs.wire.write.Needs as need

@@ -1,0 +1,6 @@
+-- Lemmas that several proofs share.
+mod Cutting
+mod Framing
+mod Joining
+mod Passing
+mod Shown
