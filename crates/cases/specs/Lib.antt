@@ -1,1 +1,1 @@
-pub mod Marked
+pub mod Proved

@@ -1,6 +1,6 @@
 // Cases of the link: those that are proved, as one fact, and outside vectors as tests.
 ghost use mathlib.Core.Path.{_≡_};
-ghost use Rattle.cases.specs.Marked.{Marked-cases};
+ghost use Rattle.cases.specs.Proved.{Proved-cases};
 
 #[cfg(test)]
 mod frame_case;
@@ -18,9 +18,9 @@ mod streams;
 mod tnc_frames;
 
 /// How many cases are proved, and that each of them holds of the rules.
-pub fn marked_cases() -> u8
+pub fn proved_cases() -> u8
     ensures count { λ r. ⌜ r ≡ 6 ⌝ }
-    ensures hold { λ _. ⌜ Marked-cases ⌝ }
+    ensures hold { λ _. ⌜ Proved-cases ⌝ }
 {
     6
 }

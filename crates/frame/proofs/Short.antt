@@ -1,5 +1,5 @@
 -- No wire form is longer than 521, and what the writer does with a frame follows.
-use mathlib.Core.Path.{_≡_, refl, sym, ap, _∙_}
+use mathlib.Core.Path.{_≡_, refl, sym, ap, subst, _∙_}
 use mathlib.Core.List.{List, [], _∷_, _++_}
 use mathlib.Core.Logic.{inl, inr, ⊎-elim}
 use Prim.Native.Nat.{ℕ, _-_, _<_, _≤_}
@@ -14,8 +14,9 @@ use Rattle.frame.specs.declared.head.Address.{Address}
 use Rattle.frame.specs.declared.head.Address.the-variants.{Channel, General}
 use Rattle.frame.specs.Frame.{codeByte, ChannelByte, Carries, carried, Frame, bodyOf}
 use Rattle.frame.specs.Head.{byteOf}
-use Rattle.frame.specs.Wire.{stuffed, wireOf, over, Lays}
+use Rattle.frame.specs.Wire.{stuffed, wireOf, over, Short-wire, Lays}
 use Rattle.frame.proofs.Bits.{code-no-mark}
+use Rattle.frame.proofs.Bodies.{known-code}
 use Rattle.frame.proofs.Stuffing.{length-wire, length-other, length-most, length-cons, stuffed-double, stuffed-append, stuffed-one, over-start}
 
 pub address-byte : (a : Address) → ChannelByte (byteOf a)
@@ -49,6 +50,11 @@ frame-short m f known address h =
     let first = length-other (f .channel) (λ q. ⊎-elim (λ low. omega arith) (λ high. omega arith) address) in
     let second = length-other code (code-no-mark (f .code) (f .reset) (f .toggle) known) in
     omega arith
+
+pub short-wire : Short-wire
+short-wire d body f b =
+    subst (λ (x : List ℕ). length (wireOf x) ≤ 521) (sym (b .bytes-are))
+    (frame-short (b .form) f (known-code d (f .code) (b .form) (b .sendable .known)) (b .sendable .address) (b .sendable .carries))
 
 -- a body that fits, and what its writing leaves
 pub room : (m : Form) (f : Frame) (body wire : List ℕ) → f .code < 8 → ChannelByte (f .channel) → Carries m (f .payload) → 521 ≤ length wire

@@ -51,7 +51,11 @@ Writes d f before after (Ok n) = Written d f before after n
 Writes d f before after (Err ShortWire) = (length before < 521) × (after ≡ before)
 Writes d f before after (Err BadPayload) = (521 ≤ length before) × ((body : List ℕ) → Body d body f → ⊥) × (after ≡ before)
 
--- the same where the form is at hand, and the code and the address are known to be good
+-- No wire form is longer than 521.
+abbrev pub Short-wire : Type 0
+Short-wire = (d : Direction) (body : List ℕ) (f : Frame) → Body d body f → length (wireOf body) ≤ 521
+
+-- what `Writes` says, where the form is at hand and code and address are known to be good
 abbrev pub Lays : Form → Frame → List ℕ → List ℕ → Result ℕ Refusal → Type 0
 Lays m f before after (Ok n) =
     (521 ≤ length before) × Carries m (f .payload) × (n ≡ length (wireOf (bodyOf m f))) × (n ≤ 521) × (after ≡ wireOf (bodyOf m f) ++ drop n before)

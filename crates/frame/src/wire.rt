@@ -5,7 +5,7 @@ ghost use Prim.Native.Nat.{ℕ, _+_, _<_, _≤_};
 ghost use lib.ListN.{length};
 ghost use Rattle.frame.specs.Head.{framed};
 ghost use Rattle.frame.specs.Kinds.{shows, hostShows, tncShows};
-ghost use Rattle.frame.specs.Wire.{stuff, stuffed, wireOf, over, refusalNumber, Writes, Lays};
+ghost use Rattle.frame.specs.Wire.{stuff, stuffed, wireOf, over, refusalNumber, Writes, Short-wire, Lays};
 use crate::form::Direction;
 use crate::form::Form;
 use crate::frames::HostFrame;
@@ -39,8 +39,10 @@ impl Refusal {
 }
 
 /// Writes a host frame from the start of the buffer on, and answers the length of its wire form.
+/// No wire form, of either direction, is longer than 521.
 pub fn write_host(head: Head, frame: HostFrame, wire: &mut [u8]) -> Result<usize, Refusal>
-    ensures { λ r. ⌜ Writes Direction.FromHost (framed head (hostShows (frame .entry))) (now (wire .entry)) (now (wire .exit)) r ⌝ }
+    ensures answer { λ r. ⌜ Writes Direction.FromHost (framed head (hostShows (frame .entry))) (now (wire .entry)) (now (wire .exit)) r ⌝ }
+    ensures short { λ _. ⌜ Short-wire ⌝ }
 {
     match frame {
         HostFrame::Information(block) => write(head, 0, Form::Counted, block, wire),

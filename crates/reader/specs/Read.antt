@@ -112,3 +112,16 @@ hearsAt d (Escaped p) bs n b =
 
 abbrev pub hears : Meaning → ℕ → Next
 hears m b = hearsAt (m .direction) (m .state) (m .bytes) (m .raw) b
+
+-- The same steps of a reader in place: with no frame, one raw byte on, with a byte kept, and with a byte of the frame.
+abbrev pub without : Reader → State → Meaning
+without r s = at (r .direction) s [] 0
+
+abbrev pub onTo : Reader → State → Meaning
+onTo r s = at (r .direction) s (meaning r .bytes) (r .raw + 1)
+
+abbrev pub keeps : Reader → Part → ℕ → Meaning
+keeps r p b = at (r .direction) (Inside p) (meaning r .bytes ++ b ∷ []) (r .raw + 1)
+
+abbrev pub adds : Reader → Part → ℕ → Next
+adds r p b = withByte (r .direction) p (meaning r .bytes) (r .raw + 1) b

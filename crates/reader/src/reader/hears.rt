@@ -1,12 +1,11 @@
 // What a reader does with each byte.
 ghost use mathlib.Core.Path.{_≡_};
-ghost use mathlib.Core.List.{[], _∷_, _++_};
-ghost use Prim.Native.Nat.{ℕ, _+_, _*_, _<_, _≤_};
+ghost use Prim.Native.Nat.{_+_, _*_, _≤_};
 ghost use Rattle.std.specs.Options.{mapped};
-ghost use Rattle.std.specs.declared.result.Result.the-variants.{Ok};
+ghost use Rattle.std.specs.declared.result.Result.the-variants.{Ok, Err};
 ghost use Rattle.reader.specs.Laws.{Round-trip, One-wire-form, Counts-raw};
 ghost use Rattle.reader.specs.State.{room, roomOf, outsideOf};
-ghost use Rattle.reader.specs.Read.{meaning, at, fresh, passed, hears, withChannel, withByte, faulty};
+ghost use Rattle.reader.specs.Read.{meaning, fresh, passed, faultOf, hears, withChannel, without, onTo, keeps, adds};
 use super::BODY;
 use super::Reader;
 use crate::fault::Fault;
@@ -73,7 +72,7 @@ impl Reader {
     // Goes on with no frame.
     fn rest(&mut self, state: State) -> Result<Heard, Fault>
         requires { ⌜ room state ≤ 259 ⌝ }
-        ensures after { λ _. ⌜ meaning (now (self .exit)) ≡ at (now (self .entry) .direction) state [] 0 ⌝ }
+        ensures after { λ _. ⌜ meaning (now (self .exit)) ≡ without (now (self .entry)) state ⌝ }
         ensures answer { λ r. ⌜ r ≡ Ok Heard.More ⌝ }
     {
         self.clear(state);
@@ -83,8 +82,8 @@ impl Reader {
     // Drops the frame for a fault at this byte.
     fn fail(&mut self, reason: Reason, state: State) -> Result<Heard, Fault>
         requires { ⌜ room state ≤ 259 ⌝ }
-        ensures after { λ _. ⌜ meaning (now (self .exit)) ≡ at (now (self .entry) .direction) state [] 0 ⌝ }
-        ensures answer { λ r. ⌜ r ≡ faulty reason (now (self .entry) .raw + 1) (fresh (now (self .entry) .direction)) .says ⌝ }
+        ensures after { λ _. ⌜ meaning (now (self .exit)) ≡ without (now (self .entry)) state ⌝ }
+        ensures answer { λ r. ⌜ r ≡ Err (faultOf reason (now (self .entry) .raw + 1)) ⌝ }
     {
         let fault = Fault {
             layer: Layer::Reader,
@@ -97,7 +96,7 @@ impl Reader {
 
     fn clear(&mut self, state: State)
         requires { ⌜ room state ≤ 259 ⌝ }
-        ensures { λ _. ⌜ meaning (now (self .exit)) ≡ at (now (self .entry) .direction) state [] 0 ⌝ }
+        ensures { λ _. ⌜ meaning (now (self .exit)) ≡ without (now (self .entry)) state ⌝ }
     {
         self.state = state;
         self.len = 0;
@@ -108,7 +107,7 @@ impl Reader {
     // An AA in a frame.
     fn escape(&mut self, part: Part) -> Result<Heard, Fault>
         requires state { ⌜ now self .state ≡ State.Inside part ⌝ }
-        ensures after { λ _. ⌜ meaning (now (self .exit)) ≡ at (now (self .entry) .direction) (State.Escaped part) (meaning (now (self .entry)) .bytes) (now (self .entry) .raw + 1) ⌝ }
+        ensures after { λ _. ⌜ meaning (now (self .exit)) ≡ onTo (now (self .entry)) (State.Escaped part) ⌝ }
         ensures answer { λ r. ⌜ r ≡ Ok Heard.More ⌝ }
     {
         self.state = State::Escaped(part);
@@ -133,8 +132,8 @@ impl Reader {
     fn add(&mut self, part: Part, b: u8) -> Result<Heard, Fault>
         requires room { ⌜ now self .len + roomOf part ≤ 259 ⌝ }
         requires raw { ⌜ now self .raw ≤ 2 * (now self .len) + outsideOf part + 1 ⌝ }
-        ensures after { λ _. ⌜ meaning (now (self .exit)) ≡ withByte (now (self .entry) .direction) part (meaning (now (self .entry)) .bytes) (now (self .entry) .raw + 1) b .then ⌝ }
-        ensures answer { λ r. ⌜ r ≡ withByte (now (self .entry) .direction) part (meaning (now (self .entry)) .bytes) (now (self .entry) .raw + 1) b .says ⌝ }
+        ensures after { λ _. ⌜ meaning (now (self .exit)) ≡ adds (now (self .entry)) part b .then ⌝ }
+        ensures answer { λ r. ⌜ r ≡ adds (now (self .entry)) part b .says ⌝ }
     {
         match part {
             Part::Code => self.add_code(b),
@@ -149,8 +148,8 @@ impl Reader {
     fn add_code(&mut self, b: u8) -> Result<Heard, Fault>
         requires room { ⌜ now self .len + 258 ≤ 259 ⌝ }
         requires raw { ⌜ now self .raw ≤ 2 * (now self .len) + 1 ⌝ }
-        ensures after { λ _. ⌜ meaning (now (self .exit)) ≡ withByte (now (self .entry) .direction) Part.Code (meaning (now (self .entry)) .bytes) (now (self .entry) .raw + 1) b .then ⌝ }
-        ensures answer { λ r. ⌜ r ≡ withByte (now (self .entry) .direction) Part.Code (meaning (now (self .entry)) .bytes) (now (self .entry) .raw + 1) b .says ⌝ }
+        ensures after { λ _. ⌜ meaning (now (self .exit)) ≡ adds (now (self .entry)) Part.Code b .then ⌝ }
+        ensures answer { λ r. ⌜ r ≡ adds (now (self .entry)) Part.Code b .says ⌝ }
     {
         match Form::of(self.direction, b & 0x3f) {
             Some(form) => self.keep(b, Part::after_code(form)),
@@ -161,8 +160,8 @@ impl Reader {
     fn add_block(&mut self, left: u16, b: u8) -> Result<Heard, Fault>
         requires room { ⌜ now self .len + roomOf (Part.Block left) ≤ 259 ⌝ }
         requires raw { ⌜ now self .raw ≤ 2 * (now self .len) + 1 ⌝ }
-        ensures after { λ _. ⌜ meaning (now (self .exit)) ≡ withByte (now (self .entry) .direction) (Part.Block left) (meaning (now (self .entry)) .bytes) (now (self .entry) .raw + 1) b .then ⌝ }
-        ensures answer { λ r. ⌜ r ≡ withByte (now (self .entry) .direction) (Part.Block left) (meaning (now (self .entry)) .bytes) (now (self .entry) .raw + 1) b .says ⌝ }
+        ensures after { λ _. ⌜ meaning (now (self .exit)) ≡ adds (now (self .entry)) (Part.Block left) b .then ⌝ }
+        ensures answer { λ r. ⌜ r ≡ adds (now (self .entry)) (Part.Block left) b .says ⌝ }
     {
         if left > 1 {
             self.keep(b, Part::Block(left - 1))
@@ -174,8 +173,8 @@ impl Reader {
     fn add_text(&mut self, b: u8) -> Result<Heard, Fault>
         requires room { ⌜ now self .len + 2 ≤ 259 ⌝ }
         requires raw { ⌜ now self .raw ≤ 2 * (now self .len) + 1 ⌝ }
-        ensures after { λ _. ⌜ meaning (now (self .exit)) ≡ withByte (now (self .entry) .direction) Part.Text (meaning (now (self .entry)) .bytes) (now (self .entry) .raw + 1) b .then ⌝ }
-        ensures answer { λ r. ⌜ r ≡ withByte (now (self .entry) .direction) Part.Text (meaning (now (self .entry)) .bytes) (now (self .entry) .raw + 1) b .says ⌝ }
+        ensures after { λ _. ⌜ meaning (now (self .exit)) ≡ adds (now (self .entry)) Part.Text b .then ⌝ }
+        ensures answer { λ r. ⌜ r ≡ adds (now (self .entry)) Part.Text b .says ⌝ }
     {
         if b == 0 {
             self.keep(b, Part::Low)
@@ -190,7 +189,7 @@ impl Reader {
     fn keep(&mut self, b: u8, next: Part) -> Result<Heard, Fault>
         requires room { ⌜ now self .len + 1 + roomOf next ≤ 259 ⌝ }
         requires raw { ⌜ now self .raw ≤ 2 * (now self .len) + 1 + outsideOf next ⌝ }
-        ensures after { λ _. ⌜ meaning (now (self .exit)) ≡ at (now (self .entry) .direction) (State.Inside next) (meaning (now (self .entry)) .bytes ++ b ∷ []) (now (self .entry) .raw + 1) ⌝ }
+        ensures after { λ _. ⌜ meaning (now (self .exit)) ≡ keeps (now (self .entry)) next b ⌝ }
         ensures answer { λ r. ⌜ r ≡ Ok Heard.More ⌝ }
     {
         self.state = State::Inside(next);
@@ -204,7 +203,7 @@ impl Reader {
     // Holds the low byte of the checksum.
     fn hold(&mut self, low: u8) -> Result<Heard, Fault>
         requires { ⌜ now self .raw ≤ 2 * (now self .len) + 1 ⌝ }
-        ensures after { λ _. ⌜ meaning (now (self .exit)) ≡ at (now (self .entry) .direction) (State.Inside (Part.High low)) (meaning (now (self .entry)) .bytes) (now (self .entry) .raw + 1) ⌝ }
+        ensures after { λ _. ⌜ meaning (now (self .exit)) ≡ onTo (now (self .entry)) (State.Inside (Part.High low)) ⌝ }
         ensures answer { λ r. ⌜ r ≡ Ok Heard.More ⌝ }
     {
         self.state = State::Inside(Part::High(low));
@@ -214,8 +213,8 @@ impl Reader {
 
     // The last byte of the frame: it passes if its checksum is good.
     fn close(&mut self, low: u8, high: u8) -> Result<Heard, Fault>
-        ensures after { λ _. ⌜ meaning (now (self .exit)) ≡ withByte (now (self .entry) .direction) (Part.High low) (meaning (now (self .entry)) .bytes) (now (self .entry) .raw + 1) high .then ⌝ }
-        ensures answer { λ r. ⌜ r ≡ withByte (now (self .entry) .direction) (Part.High low) (meaning (now (self .entry)) .bytes) (now (self .entry) .raw + 1) high .says ⌝ }
+        ensures after { λ _. ⌜ meaning (now (self .exit)) ≡ adds (now (self .entry)) (Part.High low) high .then ⌝ }
+        ensures answer { λ r. ⌜ r ≡ adds (now (self .entry)) (Part.High low) high .says ⌝ }
     {
         if fcs::extend(self.register, &[low, high]) != fcs::RESIDUE {
             return self.fail(Reason::BadChecksum, State::Waiting);

@@ -12,4 +12,4 @@ returns c =
     let bytes = c .args .bytes .now in
     let e = frame-is (c .args .number) bytes (c .head-for .result) (c .head-for .ensures) in
     framed-from (c .args .number) bytes (c .args .wire .now) _ _ (omega arith)
-    (subst (λ (f : Frame). Writes FromHost f (c .args .wire .now) (c .write-host .last .wire) (c .write-host .result)) e (c .write-host .ensures))
+    (subst (λ (f : Frame). Writes FromHost f (c .args .wire .now) (c .write-host .last .wire) (c .write-host .result)) e (c .write-host .ensures .answer))

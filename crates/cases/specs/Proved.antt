@@ -28,7 +28,7 @@ information block = record { channel = 33; code = 0; reset = false; toggle = fal
 abbrev pub emptyList : Frame
 emptyList = record { channel = 255; code = 1; reset = true; toggle = false; payload = listOf (replicate 64 false) }
 
-pub record Marked-cases : Type 0 where
+pub record Proved-cases : Type 0 where
   -- a frame that may be sent goes into 521 bytes, and 520 give refusal 14
   pub wire-521 : (d : Direction) (f : Frame) (body before buffer : List ℕ) (r : Result ℕ Refusal) → Body d body f → Writes d f before buffer r
       → length before ≡ 521 → (n : ℕ) × (r ≡ Ok n)

@@ -19,7 +19,7 @@ use Rattle.reader.specs.declared.state.State.the-variants.{Inside}
 use Rattle.reader.specs.declared.fault.Reason.the-variants.{StrayMark}
 use Rattle.reader.specs.Read.{at, fresh, faultOf, hears}
 use Rattle.reader.specs.Laws.{after}
-use Rattle.cases.specs.Marked.{information, Marked-cases}
+use Rattle.cases.specs.Proved.{information, Proved-cases}
 
 goes : (d : Direction) (f : Frame) (body before buffer : List ℕ) (r : Result ℕ Refusal) → Body d body f → Writes d f before buffer r → length before ≡ 521 → (n : ℕ) × (r ≡ Ok n)
 goes d f body before buffer (Ok n) b w e = (n, refl)
@@ -46,8 +46,8 @@ count block e =
     let rest = stuffed (block ++ checkOf (bodyOf form.Counted (information block))) in
     (rest, ap (λ (n : ℕ). 170 ∷ 170 ∷ 33 ∷ 0 ∷ (stuff n ++ rest)) c)
 
-pub marked-cases : Marked-cases
-marked-cases = record {
+pub proved-cases : Proved-cases
+proved-cases = record {
   wire-521 = goes;
   wire-520 = refused;
   number-14 = refl;
