@@ -26,7 +26,7 @@ pub struct FrameCase {
 }
 
 impl FrameCase {
-    pub fn head(&self) -> Result<Head, Fail> {
+    pub(crate) fn head(&self) -> Result<Head, Fail> {
         let Some(address) = Address::of(self.channel) else {
             return Err(Fail::new("no channel byte"));
         };
@@ -39,7 +39,7 @@ impl FrameCase {
 }
 
 /// A buffer begins with the bytes that are wanted, as long as said, and is blank after them.
-pub fn check_written(buffer: &[u8; WIRE], len: usize, wanted: &[u8]) -> Result<(), Fail> {
+pub(crate) fn check_written(buffer: &[u8; WIRE], len: usize, wanted: &[u8]) -> Result<(), Fail> {
     check_eq(len, wanted.len())?;
     check(len <= buffer.len())?;
     for (i, b) in buffer.iter().enumerate() {
@@ -49,7 +49,7 @@ pub fn check_written(buffer: &[u8; WIRE], len: usize, wanted: &[u8]) -> Result<(
 }
 
 /// A frame, heard after junk, passes with its last byte and not before.
-pub fn check_passes(reader: &mut Reader, wire: &[u8]) -> Result<(), Fail> {
+pub(crate) fn check_passes(reader: &mut Reader, wire: &[u8]) -> Result<(), Fail> {
     let (last, before) = wire.split_last().ok_or("no byte")?;
     for b in JUNK.iter().chain(before) {
         check_eq(reader.hear(*b)?, Heard::More)?;

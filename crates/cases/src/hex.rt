@@ -6,7 +6,7 @@ use std::fmt;
 use std::test::*;
 
 /// The bytes of a text.
-pub fn bytes(heap: Global, text: &str) -> Result<Vec<u8>, Fail> {
+pub(crate) fn bytes(heap: Global, text: &str) -> Result<Vec<u8>, Fail> {
     let mut bytes = Vec::new(heap);
     for pair in text.as_bytes().chunks(2) {
         bytes.push(byte(pair).ok_or("no pair of hex digits")?)?;
@@ -15,7 +15,7 @@ pub fn bytes(heap: Global, text: &str) -> Result<Vec<u8>, Fail> {
 }
 
 /// Adds bytes to a text.
-pub fn show(text: &mut String, bytes: &[u8]) -> fmt::Result {
+pub(crate) fn show(text: &mut String, bytes: &[u8]) -> fmt::Result {
     for b in bytes {
         write!(text, "{b:02X}")?;
     }

@@ -19,7 +19,7 @@ use std::test::*;
 mod table;
 
 /// The host frame of a code.
-pub fn host_frame(code: u8, payload: &[u8]) -> Option<HostFrame<'_>> {
+pub(crate) fn host_frame(code: u8, payload: &[u8]) -> Option<HostFrame<'_>> {
     match code {
         0 => Some(HostFrame::Information(payload)),
         1 => Some(HostFrame::Command(payload)),

@@ -19,7 +19,7 @@ use std::test::*;
 mod table;
 
 /// The TNC frame of a code.
-pub fn tnc_frame(code: u8, payload: &[u8]) -> Option<TncFrame<'_>> {
+pub(crate) fn tnc_frame(code: u8, payload: &[u8]) -> Option<TncFrame<'_>> {
     match code {
         0 => Some(TncFrame::Success),
         1 => Some(TncFrame::Message(payload)),

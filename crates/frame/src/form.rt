@@ -17,7 +17,7 @@ pub enum Direction {
 }
 
 /// What follows a code byte: nothing, a text closed by 00, or a count and as many bytes.
-#[derive(Clone, Copy, PartialEq, Eq, Debug)]
+#[derive(Clone, Copy)]
 pub enum Form {
     Bare,
     Text,

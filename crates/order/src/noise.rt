@@ -1,7 +1,7 @@
 // What disturbs the line. The types stand alone, since the definitions in specs/ name them.
 
 /// What the line adds before a frame.
-#[derive(Clone, Copy, PartialEq, Eq, Debug)]
+#[derive(Clone, Copy)]
 pub enum Disturbance {
     /// Bytes that start no frame, a single AA among them.
     Garbage,
@@ -20,7 +20,7 @@ pub enum Disturbance {
 }
 
 /// The disturbances before one frame.
-#[derive(Clone, Copy, PartialEq, Eq, Debug)]
+#[derive(Clone, Copy)]
 pub struct Turn {
     pub first: Disturbance,
     pub second: Disturbance,

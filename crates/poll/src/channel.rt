@@ -14,7 +14,7 @@ pub struct Channel {
 }
 
 /// A listed value: a channel as a poll list has it, its number and 1. It is made and read by poll lists alone.
-#[derive(Clone, Copy, PartialEq, Eq, Debug)]
+#[derive(Clone, Copy)]
 pub struct Listed {
     value: u8,
     ghost low: { 1 ≤ value },

@@ -5,7 +5,7 @@ ghost use Rattle.reader.specs.State.{partOf, roomOf, outsideOf};
 use frame::form::Form;
 
 /// What the next byte of a frame is, after its channel byte.
-#[derive(Clone, Copy, PartialEq, Eq, Debug)]
+#[derive(Clone, Copy)]
 pub enum Part {
     Code,
     Count,
@@ -19,7 +19,7 @@ pub enum Part {
     High(u8),
 }
 
-#[derive(Clone, Copy, PartialEq, Eq, Debug)]
+#[derive(Clone, Copy)]
 pub enum State {
     /// Between frames.
     Waiting,
