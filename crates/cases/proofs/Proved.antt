@@ -10,10 +10,10 @@ use Rattle.fcs.specs.Fcs.{checkOf}
 use Rattle.frame.specs.declared.form.Direction.{Direction}
 use Rattle.frame.specs.declared.form.Direction.the-variants.{FromHost, FromTnc}
 use Rattle.frame.specs.declared.form.Form.the-variants as form
-use Rattle.frame.specs.declared.wire.Refusal.{Refusal}
-use Rattle.frame.specs.declared.wire.Refusal.the-variants.{ShortWire, BadPayload}
+use Rattle.wire.specs.declared.writer.Refusal.{Refusal}
+use Rattle.wire.specs.declared.writer.Refusal.the-variants.{ShortWire, BadPayload}
 use Rattle.frame.specs.Frame.{Frame, Body, bodyOf}
-use Rattle.frame.specs.Wire.{stuff, stuffed, wireOf, Writes}
+use Rattle.wire.specs.Wire.{stuff, stuffed, wireOf, Writes}
 use Rattle.reader.specs.declared.state.Part.the-variants.{Code}
 use Rattle.reader.specs.declared.state.State.the-variants.{Inside}
 use Rattle.reader.specs.declared.fault.Reason.the-variants.{StrayMark}

@@ -9,10 +9,10 @@ use Rattle.std.specs.declared.result.Result.the-variants.{Ok, Err}
 use Rattle.poll.specs.List.{listOf}
 use Rattle.frame.specs.declared.form.Direction.{Direction}
 use Rattle.frame.specs.declared.form.Form.the-variants as form
-use Rattle.frame.specs.declared.wire.Refusal.{Refusal}
-use Rattle.frame.specs.declared.wire.Refusal.the-variants.{ShortWire}
+use Rattle.wire.specs.declared.writer.Refusal.{Refusal}
+use Rattle.wire.specs.declared.writer.Refusal.the-variants.{ShortWire}
 use Rattle.frame.specs.Frame.{codeIn, resetIn, toggleIn, Frame, bodyOf, Body}
-use Rattle.frame.specs.Wire.{wireOf, refusalNumber, Writes}
+use Rattle.wire.specs.Wire.{wireOf, refusalNumber, Writes}
 use Rattle.reader.specs.declared.fault.Reason.the-variants.{StrayMark}
 use Rattle.reader.specs.declared.state.Part.the-variants.{Code}
 use Rattle.reader.specs.declared.state.State.the-variants.{Inside}

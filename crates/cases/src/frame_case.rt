@@ -1,13 +1,13 @@
 // A row of a table of frames, and what both directions check of it.
 use frame::head::Address;
 use frame::head::Head;
-use frame::wire::WIRE;
 use reader::fault::FaultDebug;
 use reader::reader::Reader;
 use reader::state::Heard;
 use reader::state::HeardDebug;
 use reader::state::HeardPartialEq;
 use std::test::*;
+use wire::writer::WIRE;
 
 /// What a buffer holds before a frame is written to it.
 pub const BLANK: u8 = 0xee;

@@ -9,12 +9,12 @@ use frame::frames::HostFrame;
 use frame::head::Head;
 use frame::head::HeadDebug;
 use frame::head::HeadPartialEq;
-use frame::wire::RefusalDebug;
-use frame::wire::WIRE;
-use frame::wire::write_host;
 use reader::reader::Reader;
 use std::alloc::Global;
 use std::test::*;
+use wire::writer::RefusalDebug;
+use wire::writer::WIRE;
+use wire::writer::write_host;
 
 mod table;
 

@@ -6,10 +6,10 @@ use crate::tnc_frames::tnc_frame;
 use frame::form::Direction;
 use frame::head::Address;
 use frame::head::Head;
-use frame::wire::WIRE;
-use frame::wire::write_host;
-use frame::wire::write_tnc;
 use std::test::*;
+use wire::writer::WIRE;
+use wire::writer::write_host;
+use wire::writer::write_tnc;
 
 /// Frames that differ in their code alone, the size of the buffer, and the number of the refusal, if they are refused.
 struct WriteCase {

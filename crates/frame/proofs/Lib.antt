@@ -1,5 +1,3 @@
 pub mod Bits
 pub mod Bodies
 pub mod Carried
-pub mod Short
-pub mod Stuffing

@@ -1,4 +1,3 @@
 pub mod Frame
 pub mod Head
 pub mod Kinds
-pub mod Wire

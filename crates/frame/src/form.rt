@@ -40,7 +40,7 @@ impl Form {
     }
 
     /// Whether a frame of this form can carry the payload.
-    pub(crate) fn carries(self, payload: &[u8]) -> bool
+    pub fn carries(self, payload: &[u8]) -> bool
         ensures { λ r. ⌜ When r (Carries self (now (payload .entry))) (Carries self (now (payload .entry)) → ⊥) ⌝ }
     {
         let n = payload.len();

@@ -1,8 +1,7 @@
 // The head of a frame: whom it is for, the reset flag and the toggle.
 ghost use mathlib.Core.Path.{_≡_};
-ghost use Prim.Native.Nat.{_<_};
 ghost use Rattle.std.specs.Options.{Cases};
-ghost use Rattle.frame.specs.Frame.{codeByte, ChannelByte, Frame, Body};
+ghost use Rattle.frame.specs.Frame.{ChannelByte, Frame, Body};
 ghost use Rattle.frame.specs.Head.{byteOf, NoHead, HeadIn, HeadOf};
 use crate::form::Direction;
 use poll::channel::Channel;
@@ -66,15 +65,5 @@ impl Head {
             reset: code & 0x40 != 0,
             toggle: code & 0x80 != 0,
         })
-    }
-
-    /// The code byte of a frame with this head.
-    pub(crate) fn code_byte(self, code: u8) -> u8
-        requires { ⌜ code < 64 ⌝ }
-        ensures { λ r. ⌜ r ≡ codeByte code (self .reset) (self .toggle) ⌝ }
-    {
-        let reset = if self.reset { 0x40 } else { 0 };
-        let toggle = if self.toggle { 0x80 } else { 0 };
-        code + reset + toggle
     }
 }

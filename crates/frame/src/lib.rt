@@ -1,5 +1,4 @@
-// The frames of the link: bodies of both directions, and the wire form.
+// The frames of the link: their heads, and the bodies of both directions.
 pub mod form;
 pub mod frames;
 pub mod head;
-pub mod wire;

@@ -13,12 +13,12 @@ use Rattle.frame.specs.declared.form.Direction.the-variants.{FromHost}
 use Rattle.frame.specs.declared.form.Form.{Form}
 use Rattle.frame.specs.declared.form.Form.the-variants.{Counted}
 use Rattle.frame.specs.declared.head.Head.{Head}
-use Rattle.frame.specs.declared.wire.Refusal.{Refusal}
-use Rattle.frame.specs.declared.wire.Refusal.the-variants.{ShortWire, BadPayload}
+use Rattle.wire.specs.declared.writer.Refusal.{Refusal}
+use Rattle.wire.specs.declared.writer.Refusal.the-variants.{ShortWire, BadPayload}
 use Rattle.frame.specs.Frame.{Frame, Carries, Body, bodyOf}
 use Rattle.frame.specs.Head.{framed}
 use Rattle.frame.specs.Kinds.{shows}
-use Rattle.frame.specs.Wire.{wireOf, Writes}
+use Rattle.wire.specs.Wire.{wireOf, Writes}
 use Rattle.order.specs.Sent.{HeadFor, frameOf, wireFor, pieceOf, lineFrom, Framed}
 
 -- the frame of a head and a block

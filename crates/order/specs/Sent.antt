@@ -11,11 +11,11 @@ use Rattle.std.specs.declared.option.Option.the-variants.{Some}
 use Rattle.frame.specs.declared.form.Direction.the-variants.{FromHost}
 use Rattle.frame.specs.declared.form.Form.the-variants.{Counted}
 use Rattle.frame.specs.declared.head.Head.{Head}
-use Rattle.frame.specs.declared.wire.Refusal.{Refusal}
-use Rattle.frame.specs.declared.wire.Refusal.the-variants.{BadPayload}
+use Rattle.wire.specs.declared.writer.Refusal.{Refusal}
+use Rattle.wire.specs.declared.writer.Refusal.the-variants.{BadPayload}
 use Rattle.frame.specs.Frame.{Frame, Carries, bodyOf}
 use Rattle.frame.specs.Head.{byteOf}
-use Rattle.frame.specs.Wire.{wireOf}
+use Rattle.wire.specs.Wire.{wireOf}
 use Rattle.reader.specs.Read.{Meaning, passed}
 use Rattle.reader.specs.Laws.{Event, events, after}
 use Rattle.order.specs.declared.send.SendError.{SendError}

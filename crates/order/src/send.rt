@@ -12,13 +12,13 @@ use crate::line::turn;
 use frame::frames::HostFrame;
 use frame::head::Address;
 use frame::head::Head;
-use frame::wire::Refusal;
-use frame::wire::RefusalDebug;
-use frame::wire::WIRE;
-use frame::wire::write_host;
 use poll::channel::Channel;
 use std::alloc::AllocError;
 use std::alloc::Global;
+use wire::writer::Refusal;
+use wire::writer::RefusalDebug;
+use wire::writer::WIRE;
+use wire::writer::write_host;
 
 /// The channel that orders go by.
 pub const CHANNEL: u8 = 33;

@@ -17,7 +17,7 @@ use Rattle.fcs.specs.Fcs.{extended, registerOf, residue}
 use Rattle.frame.specs.declared.form.Direction.{Direction}
 use Rattle.frame.specs.declared.form.Form.{Form}
 use Rattle.frame.specs.Frame.{formOf, codeIn, Frame, Body}
-use Rattle.frame.specs.Wire.{stuffed, wireOf}
+use Rattle.wire.specs.Wire.{stuffed, wireOf}
 use Rattle.reader.specs.declared.fault.Fault.{Fault}
 use Rattle.reader.specs.declared.fault.Reason.{Reason}
 use Rattle.reader.specs.declared.fault.Reason.the-variants.{StrayMark, BadChannel, UnknownCode, EndlessText, BadChecksum, NewFrame}

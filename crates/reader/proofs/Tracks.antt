@@ -19,9 +19,9 @@ use Rattle.frame.specs.declared.form.Direction.{Direction}
 use Rattle.frame.specs.declared.form.Form.{Form}
 use Rattle.frame.specs.declared.form.Form.the-variants as form
 use Rattle.frame.specs.Frame.{formOf, codeIn, resetIn, toggleIn, ChannelByte, NoZero, Carries, carried, Frame, Body}
-use Rattle.frame.specs.Wire.{stuff, stuffed, wireOf}
+use Rattle.wire.specs.Wire.{stuff, stuffed, wireOf}
 use Rattle.frame.proofs.Bits.{code-back}
-use Rattle.frame.proofs.Stuffing.{stuffed-append, stuffed-one}
+use Rattle.wire.proofs.Stuffing.{stuffed-append, stuffed-one}
 use Rattle.reader.specs.declared.state.Part.{Part}
 use Rattle.reader.specs.declared.state.Part.the-variants.{Code, Count, Block, Text, Low, High}
 use Rattle.reader.specs.declared.state.State.{State}

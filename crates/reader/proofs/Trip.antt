@@ -18,7 +18,7 @@ use Rattle.frame.specs.declared.form.Direction.{Direction}
 use Rattle.frame.specs.declared.form.Form.{Form}
 use Rattle.frame.specs.declared.form.Form.the-variants as form
 use Rattle.frame.specs.Frame.{formOf, codeByte, codeIn, ChannelByte, NoZero, Carries, carried, Frame, bodyOf}
-use Rattle.frame.specs.Wire.{stuff, stuffed, wireOf}
+use Rattle.wire.specs.Wire.{stuff, stuffed, wireOf}
 use Rattle.frame.proofs.Bits.{code-in}
 use Rattle.frame.proofs.Bodies.{known-code}
 use Rattle.reader.specs.declared.state.Part.{Part}

@@ -8,7 +8,7 @@ use Rattle.std.specs.declared.result.Result.{Result}
 use Rattle.std.specs.declared.result.Result.the-variants.{Ok, Err}
 use Rattle.frame.specs.declared.form.Direction.{Direction}
 use Rattle.frame.specs.Frame.{Frame, Body}
-use Rattle.frame.specs.Wire.{wireOf}
+use Rattle.wire.specs.Wire.{wireOf}
 use Rattle.reader.specs.declared.fault.Fault.{Fault}
 use Rattle.reader.specs.declared.fault.Reason.the-variants.{NewFrame}
 use Rattle.reader.specs.declared.state.State.{State}

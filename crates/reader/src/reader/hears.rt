@@ -18,8 +18,8 @@ use frame::form::Direction;
 use frame::form::Form;
 use frame::form::TEXT;
 use frame::head::GENERAL;
-use frame::wire::MARK;
 use poll::channel::LAST_CHANNEL;
+use wire::writer::MARK;
 
 impl Reader {
     /// A reader of one direction that has heard nothing.

@@ -3,7 +3,7 @@ use mathlib.Core.Path.{subst}
 use native.Mathlib.Omega.{arith}
 use Rattle.frame.specs.declared.form.Direction.the-variants.{FromHost}
 use Rattle.frame.specs.Frame.{Frame}
-use Rattle.frame.specs.Wire.{Writes}
+use Rattle.wire.specs.Wire.{Writes}
 use Rattle.order.proofs.Framing.{frame-is, framed-from}
 use Rattle.order.proofs.send.framed.Needs as need
 

@@ -4,9 +4,9 @@ use native.Mathlib.Nat.{add-zero}
 use native.Mathlib.Omega.{arith}
 use lib.ListN.{length, take, getD}
 use Rattle.std.proofs.shelf.Lists.{take-all}
-use Rattle.frame.specs.Wire.{stuffed, stuff}
-use Rattle.frame.proofs.Stuffing.{stuffed-none, stuffed-more, stuffed-part, length-more, over-none, over-over}
-use Rattle.frame.proofs.wire.put_all.Needs as need
+use Rattle.wire.specs.Wire.{stuffed, stuff}
+use Rattle.wire.proofs.Stuffing.{stuffed-none, stuffed-more, stuffed-part, length-more, over-none, over-over}
+use Rattle.wire.proofs.writer.put_all.Needs as need
 
 pub loop-b-holds : need.loop-b-holds
 loop-b-holds c = (simp (stuffed-none, add-zero), simp (stuffed-none, over-none))

@@ -10,11 +10,11 @@ use Rattle.std.specs.Joined.{joined}
 use Rattle.std.specs.declared.result.Result.{Result}
 use Rattle.std.specs.declared.result.Result.the-variants.{Ok, Err}
 use Rattle.fcs.specs.Fcs.{checkOf}
 use Rattle.frame.specs.declared.form.Direction.{Direction}
 use Rattle.frame.specs.declared.form.Form.{Form}
-use Rattle.frame.specs.declared.wire.Refusal.{Refusal}
-use Rattle.frame.specs.declared.wire.Refusal.the-variants.{ShortWire, BadPayload}
+use Rattle.wire.specs.declared.writer.Refusal.{Refusal}
+use Rattle.wire.specs.declared.writer.Refusal.the-variants.{ShortWire, BadPayload}
 use Rattle.frame.specs.Frame.{Frame, Carries, bodyOf, Body}
 
 -- a byte on the wire: 00 follows AA
 abbrev pub stuff : ℕ → List ℕ

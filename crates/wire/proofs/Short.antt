@@ -8,16 +8,16 @@ use lib.ListN.{length, drop, length-append}
 use Rattle.std.proofs.shelf.Tests.{cases-lt}
 use Rattle.std.specs.declared.result.Result.the-variants.{Ok}
 use Rattle.fcs.specs.Fcs.{checkOf}
 use Rattle.frame.specs.declared.form.Form.{Form}
 use Rattle.frame.specs.declared.form.Form.the-variants.{Bare, Text, Counted}
 use Rattle.frame.specs.declared.head.Address.{Address}
 use Rattle.frame.specs.declared.head.Address.the-variants.{Channel, General}
 use Rattle.frame.specs.Frame.{codeByte, ChannelByte, Carries, carried, Frame, bodyOf}
 use Rattle.frame.specs.Head.{byteOf}
-use Rattle.frame.specs.Wire.{stuffed, wireOf, over, Short-wire, Lays}
+use Rattle.wire.specs.Wire.{stuffed, wireOf, over, Short-wire, Lays}
 use Rattle.frame.proofs.Bits.{code-no-mark}
 use Rattle.frame.proofs.Bodies.{known-code}
-use Rattle.frame.proofs.Stuffing.{length-wire, length-other, length-most, length-cons, stuffed-double, stuffed-append, stuffed-one, over-start}
+use Rattle.wire.proofs.Stuffing.{length-wire, length-other, length-most, length-cons, stuffed-double, stuffed-append, stuffed-one, over-start}
 
 pub address-byte : (a : Address) → ChannelByte (byteOf a)
 address-byte (Channel c) = inl (c .within)

@@ -3,14 +3,15 @@ ghost use mathlib.Core.Path.{_≡_};
 ghost use mathlib.Core.List.{_++_};
 ghost use Prim.Native.Nat.{ℕ, _+_, _<_, _≤_};
 ghost use lib.ListN.{length};
+ghost use Rattle.frame.specs.Frame.{codeByte};
 ghost use Rattle.frame.specs.Head.{framed};
 ghost use Rattle.frame.specs.Kinds.{shows, hostShows, tncShows};
-ghost use Rattle.frame.specs.Wire.{stuff, stuffed, wireOf, over, refusalNumber, Writes, Short-wire, Lays};
-use crate::form::Direction;
-use crate::form::Form;
-use crate::frames::HostFrame;
-use crate::frames::TncFrame;
-use crate::head::Head;
+ghost use Rattle.wire.specs.Wire.{stuff, stuffed, wireOf, over, refusalNumber, Writes, Short-wire, Lays};
+use frame::form::Direction;
+use frame::form::Form;
+use frame::frames::HostFrame;
+use frame::frames::TncFrame;
+use frame::head::Head;
 
 /// The shortest buffer that a frame is written to. No wire form is longer.
 pub const WIRE: usize = 521;
@@ -84,7 +85,7 @@ fn write(
         return Err(Refusal::BadPayload);
     }
     let channel = head.address.byte();
-    let code = head.code_byte(code);
+    let code = code_byte(head, code);
     Ok(
         match form {
             Form::Bare => seal(&[channel, code], &[], &[], wire),
@@ -97,6 +98,15 @@ fn write(
             ),
         },
     )
+}
+
+fn code_byte(head: Head, code: u8) -> u8
+    requires { ⌜ code < 8 ⌝ }
+    ensures { λ r. ⌜ r ≡ codeByte code (head .reset) (head .toggle) ⌝ }
+{
+    let reset = if head.reset { 0x40 } else { 0 };
+    let toggle = if head.toggle { 0x80 } else { 0 };
+    code + reset + toggle
 }
 
 // Writes the wire form of a body given in three parts.

@@ -1,7 +1,7 @@
 -- A frame laid in its form is written; the bound holds of all frames.
 use borrow.Author.Needs.{needs}
-use Rattle.frame.proofs.Short.{short-wire}
-use Rattle.frame.proofs.wire.write_host.Needs as need
+use Rattle.wire.proofs.Short.{short-wire}
+use Rattle.wire.proofs.writer.write_host.Needs as need
 
 pub returns-in-Information : need.returns-in-Information
 returns-in-Information c = record { answer = search needs; short = short-wire }

@@ -5,9 +5,9 @@ use Prim.Native.Nat.{ℕ}
 use native.Mathlib.Omega.{arith}
 use lib.ListN.{length, length-set}
 use Rattle.fcs.specs.Fcs.{checkOf}
-use Rattle.frame.specs.Wire.{stuffed}
-use Rattle.frame.proofs.Stuffing.{parts-wire, parts-length, parts-check, over-marks, over-four}
-use Rattle.frame.proofs.wire.seal.Needs as need
+use Rattle.wire.specs.Wire.{stuffed}
+use Rattle.wire.proofs.Stuffing.{parts-wire, parts-length, parts-check, over-marks, over-four}
+use Rattle.wire.proofs.writer.seal.Needs as need
 
 pub index-wire-0 : need.index-wire-0
 index-wire-0 c = omega (arith, c .pre, parts-length (c .args .front .now) (c .args .payload .now) (c .args .back .now))

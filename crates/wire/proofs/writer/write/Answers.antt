@@ -4,13 +4,13 @@ use mathlib.Core.List.{List, [], _∷_, append-nil}
 use Prim.Native.Nat.{ℕ, _-_}
 use native.Mathlib.Omega.{arith}
 use lib.ListN.{length}
 use Rattle.frame.specs.declared.form.Form.{Form}
 use Rattle.frame.specs.declared.form.Form.the-variants.{Bare, Text, Counted}
 use Rattle.frame.specs.Frame.{Frame, codeByte, carried, bodyOf}
 use Rattle.frame.specs.Head.{framed}
 use Rattle.frame.specs.Kinds.{shows}
-use Rattle.frame.proofs.Short.{address-byte, room, laid}
-use Rattle.frame.proofs.wire.write.Needs as need
+use Rattle.wire.proofs.Short.{address-byte, room, laid}
+use Rattle.wire.proofs.writer.write.Needs as need
 
 -- the bytes of a body, from what was called for its first two
 body-is : (m n : Form) (f : Frame) (a b : ℕ) (rest : List ℕ) → a ≡ f .channel → b ≡ codeByte (f .code) (f .reset) (f .toggle)

@@ -1,7 +1,7 @@
 -- One byte: 00 goes after AA, and after nothing else.
 use borrow.Author.Needs.{needs}
-use Rattle.frame.proofs.Stuffing.{put-mark, put-other}
-use Rattle.frame.proofs.wire.put.Needs as need
+use Rattle.wire.proofs.Stuffing.{put-mark, put-other}
+use Rattle.wire.proofs.writer.put.Needs as need
 
 pub returns-then-b-eq-MARK : need.returns-then-b-eq-MARK
 returns-then-b-eq-MARK c = record { next = search needs; after = put-mark _ _ _ (search needs) (search needs) }

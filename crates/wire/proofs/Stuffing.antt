@@ -14,7 +14,7 @@ use Rattle.std.proofs.shelf.Edits.{paste-none, paste-paste, length-paste, take-
 use Rattle.std.proofs.shelf.Tests.{cond-false, ne-eqb}
 use Rattle.fcs.specs.Fcs.{extended, checkBytes, checkOf}
 use Rattle.fcs.proofs.Extended.{extended-append}
-use Rattle.frame.specs.Wire.{stuff, stuffed, over, wireOf}
+use Rattle.wire.specs.Wire.{stuff, stuffed, over, wireOf}
 
 pub stuffed-append : (xs ys : List ℕ) → stuffed (xs ++ ys) ≡ stuffed xs ++ stuffed ys
 unfolding stuffed

@@ -2,8 +2,8 @@
 use mathlib.Core.Path.{_≡_}
 use Prim.Native.Nat.{_+_}
 use lib.ListN.{length, take}
-use Rattle.frame.specs.Wire.{stuffed, over}
-use Rattle.frame.proofs.wire.put_all.Given as given
+use Rattle.wire.specs.Wire.{stuffed, over}
+use Rattle.wire.proofs.writer.put_all.Given as given
 
 abbrev pub Inv-loop-b : given.InvT-loop-b
 Inv-loop-b l = (l .n ≡ l .at + length (stuffed (take (l .b-index) (l .bytes)))) × (l .wire ≡ over (l .entry .wire) (l .at) (stuffed (take (l .b-index) (l .bytes))))
