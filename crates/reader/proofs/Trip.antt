@@ -6,10 +6,11 @@ use mathlib.Core.List.{List, [], _∷_, _++_, append-assoc}
 use Prim.Native.Nat.{ℕ, suc, _+_, _-_, _≤_}
 use native.Mathlib.Omega.{arith}
 use lib.Dec.{eqb, ltb}
-use lib.ListN.{length, getD, length-append}
+use lib.ListN.{length, getD, take, drop, length-append}
 use Rattle.std.specs.declared.option.Option.{Option}
 use Rattle.std.specs.declared.option.Option.the-variants.{Some}
 use Rattle.std.specs.declared.result.Result.the-variants.{Ok}
+use Rattle.std.proofs.shelf.Lists.{take-at}
 use Rattle.std.proofs.shelf.Tests.{cases-bool, eqb-true, eq-eqb, ne-eqb, lt-ltb, le-ltb}
 use Rattle.std.proofs.shelf.Ways.{tells}
 use Rattle.fcs.specs.Fcs.{extended, registerOf, residue, checkOf}
@@ -26,7 +27,7 @@ use Rattle.reader.specs.declared.state.Part.the-variants.{Code, Count, Block, 
 use Rattle.reader.specs.declared.state.State.the-variants.{Waiting, Marked, Started, Inside, Escaped, Passed}
 use Rattle.reader.specs.State.{partOf}
 use Rattle.reader.specs.Read.{Meaning, Next, at, inside, isChannel, withChannel, withCode, withByte}
-use Rattle.reader.specs.Laws.{Event, eventsOf, after, events, cut, Round-trip}
+use Rattle.reader.specs.Laws.{Event, eventsOf, after, events, cut, Round-trip, Written-passes}
 use Rattle.reader.proofs.Runs.{events-append, after-append, direction-kept}
 
 -- two AA start a frame
@@ -151,4 +152,14 @@ round-trip m before body f b =
           ∙ ap (λ (l : List Event). events m before ++ l) (start .0 ∙ ap (λ (l : List Event). cut q ++ l) (k .0))
           ∙ sym (append-assoc (events m before) (cut q) (Ok body ∷ [])),
       after-append m before (wireOf body) ∙ start .1 ∙ k .1 ∙ ap (λ (x : Direction). at x Passed body 0) e,
+    )
+
+pub written-passes : Written-passes
+written-passes m earlier f before buffer n w =
+    let t = round-trip m earlier (w .body) f (w .body-of) in
+    let e : take n buffer ≡ wireOf (w .body) = ap (take n) (w .buffer) ∙ take-at (wireOf (w .body)) (drop n before) n (sym (w .length-is)) in (
+      w .body,
+      w .body-of,
+      ap (λ (l : List ℕ). events m (earlier ++ l)) e ∙ t .0,
+      ap (λ (l : List ℕ). after m (earlier ++ l)) e ∙ t .1,
     )

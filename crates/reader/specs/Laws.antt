@@ -2,13 +2,13 @@
 use mathlib.Core.Path.{_≡_}
 use mathlib.Core.List.{List, [], _∷_, _++_}
 use Prim.Native.Nat.{ℕ, _+_, _<_}
-use lib.ListN.{length, getD}
+use lib.ListN.{length, getD, take}
 use Rattle.std.specs.declared.option.Option.the-variants.{Some}
 use Rattle.std.specs.declared.result.Result.{Result}
 use Rattle.std.specs.declared.result.Result.the-variants.{Ok, Err}
 use Rattle.frame.specs.declared.form.Direction.{Direction}
 use Rattle.frame.specs.Frame.{Frame, Body}
-use Rattle.wire.specs.Wire.{wireOf}
+use Rattle.wire.specs.Wire.{wireOf, Writes}
 use Rattle.reader.specs.declared.fault.Fault.{Fault}
 use Rattle.reader.specs.declared.fault.Reason.the-variants.{NewFrame}
 use Rattle.reader.specs.declared.state.State.{State}
@@ -52,6 +52,13 @@ abbrev pub Round-trip : Type 0
 Round-trip = (m : Meaning) (before body : List ℕ) (f : Frame) → Body (m .direction) body f
     → (events m (before ++ wireOf body) ≡ events m before ++ cut (after m before) ++ Ok body ∷ [])
     × (after m (before ++ wireOf body) ≡ at (m .direction) Passed body 0)
+
+-- So whatever the writer wrote passes: the bytes of its buffer, as many as it answered, are heard as the body of that frame.
+abbrev pub Written-passes : Type 0
+Written-passes = (m : Meaning) (earlier : List ℕ) (f : Frame) (before buffer : List ℕ) (n : ℕ) → Writes (m .direction) f before buffer (Ok n)
+    → (body : List ℕ) × Body (m .direction) body f
+    × (events m (earlier ++ take n buffer) ≡ events m earlier ++ cut (after m earlier) ++ Ok body ∷ [])
+    × (after m (earlier ++ take n buffer) ≡ at (m .direction) Passed body 0)
 
 abbrev pub Bytes : List ℕ → Type 0
 Bytes xs = (k : ℕ) → k < length xs → getD xs k 0 < 256

@@ -3,7 +3,7 @@ ghost use mathlib.Core.Path.{_≡_};
 ghost use Prim.Native.Nat.{_+_, _*_, _≤_};
 ghost use Rattle.std.specs.Options.{mapped};
 ghost use Rattle.std.specs.declared.result.Result.the-variants.{Ok, Err};
-ghost use Rattle.reader.specs.Laws.{Round-trip, One-wire-form, Counts-raw};
+ghost use Rattle.reader.specs.Laws.{Round-trip, Written-passes, One-wire-form, Counts-raw};
 ghost use Rattle.reader.specs.State.{room, roomOf, outsideOf};
 ghost use Rattle.reader.specs.Read.{meaning, fresh, passed, faultOf, hears, withChannel, without, onTo, keeps, adds};
 use super::BODY;
@@ -22,10 +22,11 @@ use poll::channel::LAST_CHANNEL;
 use wire::writer::MARK;
 
 impl Reader {
-    /// A reader of one direction that has heard nothing.
+    /// A reader of one direction that has heard nothing. Every reader begins here, so the laws of all of them stand here.
     pub fn new(direction: Direction) -> Reader
         ensures value { λ r. ⌜ meaning r ≡ fresh direction ⌝ }
         ensures round_trip { λ _. ⌜ Round-trip ⌝ }
+        ensures written_passes { λ _. ⌜ Written-passes ⌝ }
         ensures one_wire_form { λ _. ⌜ One-wire-form direction ⌝ }
         ensures counts { λ _. ⌜ Counts-raw direction ⌝ }
     {
