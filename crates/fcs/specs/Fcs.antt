@@ -5,9 +5,17 @@ use Prim.Native.Nat.{ℕ, zero, suc, _*_, _/_, _%_, _<_}
 use lib.Bits.{bitXor}
 use Rattle.std.specs.Iters.{folded}
 
--- one step: a shift to the right, and where the bit that falls out is 1, an exclusive or with 8408 (hex)
+-- 8408 (hex): the polynomial, lowest bit first
+abbrev pub polynomial : ℕ
+polynomial = 33800
+
+-- FFFF: the register before the first byte, and what complements it
+abbrev pub start : ℕ
+start = 65535
+
+-- one step: a shift to the right, and where the bit that falls out is 1, an exclusive or with the polynomial
 abbrev pub bit : ℕ → ℕ
-bit c = bitXor (c / 2) (c % 2 * 33800)
+bit c = bitXor (c / 2) (c % 2 * polynomial)
 
 -- eight steps: the table's entry at each index
 unfoldable pub eight : ℕ → ℕ
@@ -21,13 +29,13 @@ stepOf c b = eight (bitXor c b)
 unfoldable pub extended : ℕ → List ℕ → ℕ
 extended c bytes = folded stepOf c bytes
 
--- the register over a whole body, which starts at FFFF
+-- the register over a whole body
 abbrev pub registerOf : List ℕ → ℕ
-registerOf bytes = extended 65535 bytes
+registerOf bytes = extended start bytes
 
 -- the checksum of a register: its complement, the low byte first
 abbrev pub checkBytes : ℕ → List ℕ
-checkBytes c = bitXor c 65535 % 256 ∷ bitXor c 65535 / 256 ∷ []
+checkBytes c = bitXor c start % 256 ∷ bitXor c start / 256 ∷ []
 
 abbrev pub checkOf : List ℕ → List ℕ
 checkOf body = checkBytes (registerOf body)

@@ -8,6 +8,7 @@ use lib.Dec.{eqb, ltb}
 use lib.ListN.{length, getD}
 use Rattle.std.specs.declared.option.Option.{Option}
 use Rattle.std.specs.declared.option.Option.the-variants.{Some, None}
+use Rattle.poll.specs.Channel.{lastChannel}
 use Rattle.frame.specs.declared.form.Direction.{Direction}
 use Rattle.frame.specs.declared.form.Direction.the-variants.{FromHost, FromTnc}
 use Rattle.frame.specs.declared.form.Form.{Form}
@@ -31,18 +32,32 @@ resetIn byte = eqb (byte / 64 % 2) 1
 abbrev pub toggleIn : ℕ → Bool
 toggleIn byte = eqb (byte / 128 % 2) 1
 
--- a channel byte: a channel, or FF for the general poll
+-- the channel byte of the general poll
+abbrev pub general : ℕ
+general = 255
+
+-- a channel byte: a channel, or the general poll
 abbrev pub ChannelByte : ℕ → Type 0
-ChannelByte c = (c ≤ 63) ⊎ (c ≡ 255)
+ChannelByte c = (c ≤ lastChannel) ⊎ (c ≡ general)
 
 abbrev pub NoZero : List ℕ → Type 0
 NoZero p = (k : ℕ) → k < length p → getD p k 0 ≡ 0 → ⊥
 
+-- the longest text, without its 00, the longest block, and the longest body
+abbrev pub longestText : ℕ
+longestText = 255
+
+abbrev pub longestBlock : ℕ
+longestBlock = 256
+
+abbrev pub longestBody : ℕ
+longestBody = longestBlock + 3
+
 -- the payloads that a form can carry
 abbrev pub Carries : Form → List ℕ → Type 0
 Carries Bare p = length p ≡ 0
-Carries Text p = (length p ≤ 255) × NoZero p
-Carries Counted p = (1 ≤ length p) × (length p ≤ 256)
+Carries Text p = (length p ≤ longestText) × NoZero p
+Carries Counted p = (1 ≤ length p) × (length p ≤ longestBlock)
 
 -- the bytes after the code byte
 abbrev pub carried : Form → List ℕ → List ℕ

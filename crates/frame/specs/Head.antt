@@ -7,13 +7,13 @@ use lib.ListN.{length, getD}
 use Rattle.frame.specs.declared.head.Address.{Address}
 use Rattle.frame.specs.declared.head.Address.the-variants.{Channel, General}
 use Rattle.frame.specs.declared.head.Head.{Head}
-use Rattle.frame.specs.Frame.{Frame, ChannelByte, resetIn, toggleIn}
+use Rattle.frame.specs.Frame.{Frame, general, ChannelByte, resetIn, toggleIn}
 use Rattle.frame.specs.Kinds.{Shown}
 
 -- the channel byte of an address
 abbrev pub byteOf : Address → ℕ
 byteOf (Channel c) = c .number
-byteOf General = 255
+byteOf General = general
 
 -- a body without a head is too short, or has no channel byte
 abbrev pub NoHead : List ℕ → Type 0

@@ -16,7 +16,7 @@ use Rattle.reader.specs.declared.fault.Fault.{Fault}
 use Rattle.reader.specs.declared.state.Heard.{Heard}
 use Rattle.reader.specs.declared.state.Heard.the-variants as heard
 use Rattle.reader.specs.Read.{Next, passed}
-use Rattle.order.specs.Sent.{toggleOf, bodyFor}
+use Rattle.order.specs.Sent.{orderChannel, toggleOf, bodyFor}
 use Rattle.order.specs.declared.receive.Receiver.{Receiver}
 use Rattle.order.specs.declared.receive.Event.{Event}
 use Rattle.order.specs.declared.receive.Event.the-variants.{More, Block, Repeat, Other}
@@ -31,11 +31,11 @@ pub record Kept : Type 0 where
 abbrev pub kept : Receiver → Kept
 kept r = record { order = vec-items (r .order); last = r .last }
 
--- the body that passed, if one did, is information on channel 33 with this toggle and this block
+-- the body that passed, if one did, is information on the orders' channel with this toggle and this block
 abbrev pub Shows : Option (List ℕ) → Bool → List ℕ → Type 0
 Shows None toggle block = ⊥
 Shows (Some body) toggle block =
-    (reset : Bool) × Body FromHost body (record { channel = 33; code = 0; reset = reset; toggle = toggle; payload = block })
+    (reset : Bool) × Body FromHost body (record { channel = orderChannel; code = 0; reset = reset; toggle = toggle; payload = block })
 
 -- a block with a new toggle is added to the order
 pub record Added (body : Option (List ℕ)) (before after : Kept) (n : ℕ) (toggle : Bool) : Type 0 where

@@ -15,7 +15,7 @@ use Rattle.wire.specs.declared.writer.Refusal.{Refusal}
 use Rattle.wire.specs.declared.writer.Refusal.the-variants.{BadPayload}
 use Rattle.frame.specs.Frame.{Frame, Carries, bodyOf}
 use Rattle.frame.specs.Head.{byteOf}
-use Rattle.wire.specs.Wire.{wireOf}
+use Rattle.wire.specs.Wire.{longestWire, wireOf}
 use Rattle.reader.specs.Read.{Meaning, passed}
 use Rattle.reader.specs.Laws.{Event, events, after}
 use Rattle.order.specs.declared.send.SendError.{SendError}
@@ -23,17 +23,21 @@ use Rattle.order.specs.declared.send.SendError.the-variants.{Refused, NoMemory
 use Rattle.order.specs.Blocks.{blocksOf}
 use Rattle.order.specs.Noise.{turnOf, disturbed}
 
+-- the channel that orders go by
+abbrev pub orderChannel : ℕ
+orderChannel = 33
+
 -- the toggles alternate, and the first is 0
 abbrev pub toggleOf : ℕ → Bool
 toggleOf number = eqb (number % 2) 1
 
--- the frame of a block: information on channel 33
+-- the frame of a block: information on that channel
 abbrev pub frameOf : ℕ → List ℕ → Frame
-frameOf number block = record { channel = 33; code = 0; reset = false; toggle = toggleOf number; payload = block }
+frameOf number block = record { channel = orderChannel; code = 0; reset = false; toggle = toggleOf number; payload = block }
 
 -- its head, its body and its wire form
 pub record HeadFor (number : ℕ) (h : Head) : Type 0 where
-  pub address : byteOf (h .address) ≡ 33
+  pub address : byteOf (h .address) ≡ orderChannel
   pub reset : h .reset ≡ false
   pub toggle : h .toggle ≡ toggleOf number
 
@@ -71,7 +75,7 @@ Passes-all text line = (m : Meaning) → m .direction ≡ FromHost → InOrder 0
 
 -- a block framed in a buffer: the length of its wire form, or why not
 abbrev pub Framed : ℕ → List ℕ → List ℕ → Result ℕ Refusal → Type 0
-Framed number block wire (Ok n) = Carries Counted block × (n ≤ 521) × (take n wire ≡ wireFor number block)
+Framed number block wire (Ok n) = Carries Counted block × (n ≤ longestWire) × (take n wire ≡ wireFor number block)
 Framed number block wire (Err why) = (why ≡ BadPayload) × (Carries Counted block → ⊥)
 
 -- a block put on the line; where it is not, the line is as before

@@ -4,6 +4,7 @@ use mathlib.Core.Bool.{Bool, true, false, cond}
 use mathlib.Core.List.{List, [], _∷_, map}
 use Prim.Native.Nat.{ℕ, _+_, _<_, _≤_}
 use lib.ListN.{length, getD, take, drop}
+use Rattle.poll.specs.Channel.{channels}
 use Rattle.poll.specs.declared.channel.Channel.{Channel}
 use Rattle.poll.specs.declared.list.PollList.{PollList}
 use Rattle.poll.specs.declared.list.ListText.{ListText}
@@ -12,9 +13,9 @@ use Rattle.poll.specs.declared.list.ListText.{ListText}
 abbrev pub Fresh : List ℕ → ℕ → Type 0
 Fresh xs v = (k : ℕ) → k < length xs → getD xs k 0 ≡ v → ⊥
 
--- a good list up to its place n: each value is 1 to 64, and differs from those before it
+-- a good list up to its place n: each value is a channel's number and 1, and differs from those before it
 abbrev pub GoodTo : List ℕ → ℕ → Type 0
-GoodTo xs n = (k : ℕ) → k < n → (1 ≤ getD xs k 0) × (getD xs k 0 ≤ 64) × Fresh (take k xs) (getD xs k 0)
+GoodTo xs n = (k : ℕ) → k < n → (1 ≤ getD xs k 0) × (getD xs k 0 ≤ channels) × Fresh (take k xs) (getD xs k 0)
 
 abbrev pub GoodList : List ℕ → Type 0
 GoodList xs = GoodTo xs (length xs)
@@ -37,7 +38,7 @@ textOf t = take (t .len) (t .values)
 
 -- the list names exactly the waiting channels
 abbrev pub Names : List Bool → List ℕ → Type 0
-Names waiting xs = (c : ℕ) → c < 64 →
+Names waiting xs = (c : ℕ) → c < channels →
     (getD waiting c false ≡ true → (k : ℕ) × (k < length xs) × (getD xs k 0 ≡ c + 1))
     × (getD waiting c false ≡ false → Fresh xs (c + 1))
 

@@ -8,7 +8,7 @@ use Rattle.std.specs.declared.result.Result.{Result}
 use Rattle.std.specs.declared.result.Result.the-variants.{Ok, Err}
 use Rattle.frame.specs.declared.form.Direction.{Direction}
 use Rattle.frame.specs.Frame.{Frame, Body}
-use Rattle.wire.specs.Wire.{wireOf, Writes}
+use Rattle.wire.specs.Wire.{mark, wireOf, Writes}
 use Rattle.reader.specs.declared.fault.Fault.{Fault}
 use Rattle.reader.specs.declared.fault.Reason.the-variants.{NewFrame}
 use Rattle.reader.specs.declared.state.State.{State}
@@ -71,10 +71,10 @@ One-wire-form d = (bytes body : List ℕ) → Bytes bytes → passed (after (fre
 -- raw bytes from a channel byte on: the first is no AA, and there is no AA AA before the last byte
 pub record FromChannel (raw : List ℕ) : Type 0 where
   pub some : 0 < length raw
-  pub first : getD raw 0 0 ≡ 170 → ⊥
-  pub no-start : (k : ℕ) → k + 2 < length raw → getD raw k 0 ≡ 170 → getD raw (k + 1) 0 ≡ 170 → ⊥
+  pub first : getD raw 0 0 ≡ mark → ⊥
+  pub no-start : (k : ℕ) → k + 2 < length raw → getD raw k 0 ≡ mark → getD raw (k + 1) 0 ≡ mark → ⊥
 
 -- The count of a fault is the number of raw bytes from the channel byte, the first after AA AA, to the faulty one.
 abbrev pub Counts-raw : Direction → Type 0
 Counts-raw d = (bytes : List ℕ) (b : ℕ) (fault : Fault) → Bytes (bytes ++ b ∷ []) → hears (after (fresh d) bytes) b .says ≡ Err fault
-    → (front raw : List ℕ) × (bytes ++ b ∷ [] ≡ front ++ 170 ∷ 170 ∷ raw) × (length raw ≡ fault .count) × FromChannel raw
+    → (front raw : List ℕ) × (bytes ++ b ∷ [] ≡ front ++ mark ∷ mark ∷ raw) × (length raw ≡ fault .count) × FromChannel raw

@@ -11,7 +11,9 @@ use Rattle.std.specs.declared.result.Result.the-variants.{Ok, Err}
 use Rattle.fcs.specs.Fcs.{extended, registerOf, residue}
 use Rattle.frame.specs.declared.form.Direction.{Direction}
 use Rattle.frame.specs.declared.form.Form.{Form}
-use Rattle.frame.specs.Frame.{formOf, codeIn}
+use Rattle.poll.specs.Channel.{lastChannel}
+use Rattle.frame.specs.Frame.{formOf, codeIn, general, longestText}
+use Rattle.wire.specs.Wire.{mark}
 use Rattle.reader.specs.declared.fault.Layer.the-variants as layer
 use Rattle.reader.specs.declared.fault.Reason.{Reason}
 use Rattle.reader.specs.declared.fault.Reason.the-variants.{StrayMark, BadChannel, UnknownCode, EndlessText, BadChecksum, NewFrame}
@@ -75,9 +77,9 @@ faulty reason n m = record { then = m; says = Err (faultOf reason n) }
 abbrev pub drops : Direction → Reason → ℕ → Next
 drops d reason n = faulty reason n (fresh d)
 
--- a channel byte: 0 to 63, or FF
+-- whether a byte is a channel byte
 abbrev pub isChannel : ℕ → Bool
-isChannel b = cond (leb b 63) true (eqb b 255)
+isChannel b = cond (leb b lastChannel) true (eqb b general)
 
 abbrev pub withChannel : Direction → ℕ → Next
 withChannel d b = cond (isChannel b) (inside d Code (b ∷ []) 1) (drops d BadChannel 1)
@@ -94,21 +96,21 @@ withByte d Count bs n b = inside d (Block (b + 1)) (bs ++ b ∷ []) n
 withByte d (Block k) bs n b = inside d (cond (ltb 1 k) (Block (k - 1)) Low) (bs ++ b ∷ []) n
 withByte d Text bs n b =
     cond (eqb b 0) (inside d Low (bs ++ b ∷ []) n)
-    (cond (ltb (length bs) 257) (inside d Text (bs ++ b ∷ []) n) (drops d EndlessText n))
+    (cond (ltb (length bs) (longestText + 2)) (inside d Text (bs ++ b ∷ []) n) (drops d EndlessText n))
 withByte d Low bs n b = inside d (High b) bs n
 withByte d (High low) bs n b =
     cond (eqb (extended (registerOf bs) (low ∷ b ∷ [])) residue) (record { then = at d Passed bs 0; says = Ok Frame }) (drops d BadChecksum n)
 
 -- one byte from the line
 abbrev pub hearsAt : Direction → State → List ℕ → ℕ → ℕ → Next
-hearsAt d Waiting bs n b = cond (eqb b 170) (goes (at d Marked [] 0)) (goes (fresh d))
-hearsAt d Passed bs n b = cond (eqb b 170) (goes (at d Marked [] 0)) (goes (fresh d))
-hearsAt d Marked bs n b = cond (eqb b 170) (goes (at d Started [] 0)) (goes (fresh d))
-hearsAt d Started bs n b = cond (eqb b 170) (goes (at d Started [] 0)) (withChannel d b)
-hearsAt d (Inside p) bs n b = cond (eqb b 170) (goes (at d (Escaped p) bs (n + 1))) (withByte d p bs (n + 1) b)
+hearsAt d Waiting bs n b = cond (eqb b mark) (goes (at d Marked [] 0)) (goes (fresh d))
+hearsAt d Passed bs n b = cond (eqb b mark) (goes (at d Marked [] 0)) (goes (fresh d))
+hearsAt d Marked bs n b = cond (eqb b mark) (goes (at d Started [] 0)) (goes (fresh d))
+hearsAt d Started bs n b = cond (eqb b mark) (goes (at d Started [] 0)) (withChannel d b)
+hearsAt d (Inside p) bs n b = cond (eqb b mark) (goes (at d (Escaped p) bs (n + 1))) (withByte d p bs (n + 1) b)
 hearsAt d (Escaped p) bs n b =
-    cond (eqb b 170) (faulty NewFrame (n + 1) (at d Started [] 0))
-    (cond (eqb b 0) (withByte d p bs (n + 1) 170) (drops d StrayMark (n + 1)))
+    cond (eqb b mark) (faulty NewFrame (n + 1) (at d Started [] 0))
+    (cond (eqb b 0) (withByte d p bs (n + 1) mark) (drops d StrayMark (n + 1)))
 
 abbrev pub hears : Meaning → ℕ → Next
 hears m b = hearsAt (m .direction) (m .state) (m .bytes) (m .raw) b

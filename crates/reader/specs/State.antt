@@ -1,5 +1,6 @@
 -- The parts of a frame, and what each state of a reader leaves room for.
-use Prim.Native.Nat.{ℕ, _+_, max}
+use Prim.Native.Nat.{ℕ, _+_, _-_, max}
+use Rattle.frame.specs.Frame.{longestBody}
 use Rattle.frame.specs.declared.form.Form.{Form}
 use Rattle.frame.specs.declared.form.Form.the-variants as form
 use Rattle.reader.specs.declared.state.Part.{Part}
@@ -15,17 +16,17 @@ partOf form.Counted = Count
 
 -- how many bytes of a body may come from this part on; a block that is read has at least one to come
 abbrev pub roomOf : Part → ℕ
-roomOf Code = 258
-roomOf Count = 257
+roomOf Code = longestBody - 1
+roomOf Count = longestBody - 2
 roomOf (Block n) = max n 1
 roomOf Text = 2
 roomOf Low = 0
 roomOf (High low) = 0
 
 abbrev pub room : State → ℕ
-room Waiting = 259
-room Marked = 259
-room Started = 259
+room Waiting = longestBody
+room Marked = longestBody
+room Started = longestBody
 room (Inside p) = roomOf p
 room (Escaped p) = roomOf p
 room Passed = 0

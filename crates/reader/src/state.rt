@@ -1,6 +1,7 @@
 // Where a reader stands between two bytes.
 ghost use mathlib.Core.Path.{_≡_};
-ghost use Prim.Native.Nat.{_≤_};
+ghost use Prim.Native.Nat.{_-_, _≤_};
+ghost use Rattle.frame.specs.Frame.{longestBody};
 ghost use Rattle.reader.specs.State.{partOf, roomOf, outsideOf};
 use frame::form::Form;
 
@@ -47,7 +48,7 @@ impl Part {
     // What follows a code byte.
     pub(crate) fn after_code(form: Form) -> Part
         ensures value { λ r. ⌜ r ≡ partOf form ⌝ }
-        ensures room { λ r. ⌜ roomOf r ≤ 257 ⌝ }
+        ensures room { λ r. ⌜ roomOf r ≤ longestBody - 2 ⌝ }
         ensures outside { λ r. ⌜ outsideOf r ≡ 0 ⌝ }
     {
         match form {

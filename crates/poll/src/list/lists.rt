@@ -7,6 +7,7 @@ ghost use Rattle.std.specs.Options.{Cases};
 ghost use Rattle.poll.specs.List.{GoodList, polled, listOf, textOf, Names, Ascends};
 use super::ListText;
 use super::PollList;
+use crate::channel::CHANNELS;
 use crate::channel::Channel;
 use crate::channel::Listed;
 
@@ -15,8 +16,8 @@ impl PollList {
     pub fn read(values: &[u8]) -> Option<PollList>
         ensures { λ r. ⌜ Cases r (GoodList (now (values .entry)) → ⊥) (λ l. GoodList (now (values .entry)) × (map (λ (c : ℕ). c + 1) (polled l) ≡ now (values .entry))) ⌝ }
     {
-        let mut seen = [false; 64];
-        let mut channels = [Channel::at(0); 64];
+        let mut seen = [false; CHANNELS];
+        let mut channels = [Channel::at(0); CHANNELS];
         let mut len = 0;
         for value in values {
             let channel = Listed::new(*value)?.channel();
@@ -40,7 +41,7 @@ impl PollList {
         ensures { λ r. ⌜ polled r ≡ [] ⌝ }
     {
         PollList {
-            channels: [Channel::at(0); 64],
+            channels: [Channel::at(0); CHANNELS],
             next: 0,
             len: 0,
         }
@@ -69,13 +70,13 @@ impl PollList {
 
 impl ListText {
     /// Lists each waiting channel, once and ascending. `PollList::read` takes the list as good.
-    pub fn of(waiting: &[bool; 64]) -> ListText
+    pub fn of(waiting: &[bool; CHANNELS]) -> ListText
         ensures value { λ r. ⌜ textOf r ≡ listOf (now (waiting .entry)) ⌝ }
         ensures good { λ r. ⌜ GoodList (textOf r) ⌝ }
         ensures names { λ r. ⌜ Names (now (waiting .entry)) (textOf r) ⌝ }
         ensures ascends { λ r. ⌜ Ascends (textOf r) ⌝ }
     {
-        let mut values = [0; 64];
+        let mut values = [0; CHANNELS];
         let mut len = 0;
         for (place, waits) in waiting.iter().enumerate() {
             if *waits {

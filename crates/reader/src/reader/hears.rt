@@ -3,6 +3,7 @@ ghost use mathlib.Core.Path.{_≡_};
 ghost use Prim.Native.Nat.{_+_, _*_, _≤_};
 ghost use Rattle.std.specs.Options.{mapped};
 ghost use Rattle.std.specs.declared.result.Result.the-variants.{Ok, Err};
+ghost use Rattle.frame.specs.Frame.{longestBody};
 ghost use Rattle.reader.specs.Laws.{Round-trip, Written-passes, One-wire-form, Counts-raw};
 ghost use Rattle.reader.specs.State.{room, roomOf, outsideOf};
 ghost use Rattle.reader.specs.Read.{meaning, fresh, passed, faultOf, hears, withChannel, without, onTo, keeps, adds};
@@ -72,7 +73,7 @@ impl Reader {
 impl Reader {
     // Goes on with no frame.
     fn rest(&mut self, state: State) -> Result<Heard, Fault>
-        requires { ⌜ room state ≤ 259 ⌝ }
+        requires { ⌜ room state ≤ longestBody ⌝ }
         ensures after { λ _. ⌜ meaning (now (self .exit)) ≡ without (now (self .entry)) state ⌝ }
         ensures answer { λ r. ⌜ r ≡ Ok Heard.More ⌝ }
     {
@@ -82,7 +83,7 @@ impl Reader {
 
     // Drops the frame for a fault at this byte.
     fn fail(&mut self, reason: Reason, state: State) -> Result<Heard, Fault>
-        requires { ⌜ room state ≤ 259 ⌝ }
+        requires { ⌜ room state ≤ longestBody ⌝ }
         ensures after { λ _. ⌜ meaning (now (self .exit)) ≡ without (now (self .entry)) state ⌝ }
         ensures answer { λ r. ⌜ r ≡ Err (faultOf reason (now (self .entry) .raw + 1)) ⌝ }
     {
@@ -96,7 +97,7 @@ impl Reader {
     }
 
     fn clear(&mut self, state: State)
-        requires { ⌜ room state ≤ 259 ⌝ }
+        requires { ⌜ room state ≤ longestBody ⌝ }
         ensures { λ _. ⌜ meaning (now (self .exit)) ≡ without (now (self .entry)) state ⌝ }
     {
         self.state = state;
@@ -131,7 +132,7 @@ impl Reader {
 
     // One byte more of the frame.
     fn add(&mut self, part: Part, b: u8) -> Result<Heard, Fault>
-        requires room { ⌜ now self .len + roomOf part ≤ 259 ⌝ }
+        requires room { ⌜ now self .len + roomOf part ≤ longestBody ⌝ }
         requires raw { ⌜ now self .raw ≤ 2 * (now self .len) + outsideOf part + 1 ⌝ }
         ensures after { λ _. ⌜ meaning (now (self .exit)) ≡ adds (now (self .entry)) part b .then ⌝ }
         ensures answer { λ r. ⌜ r ≡ adds (now (self .entry)) part b .says ⌝ }
@@ -147,7 +148,7 @@ impl Reader {
     }
 
     fn add_code(&mut self, b: u8) -> Result<Heard, Fault>
-        requires room { ⌜ now self .len + 258 ≤ 259 ⌝ }
+        requires room { ⌜ now self .len + roomOf Part.Code ≤ longestBody ⌝ }
         requires raw { ⌜ now self .raw ≤ 2 * (now self .len) + 1 ⌝ }
         ensures after { λ _. ⌜ meaning (now (self .exit)) ≡ adds (now (self .entry)) Part.Code b .then ⌝ }
         ensures answer { λ r. ⌜ r ≡ adds (now (self .entry)) Part.Code b .says ⌝ }
@@ -159,7 +160,7 @@ impl Reader {
     }
 
     fn add_block(&mut self, left: u16, b: u8) -> Result<Heard, Fault>
-        requires room { ⌜ now self .len + roomOf (Part.Block left) ≤ 259 ⌝ }
+        requires room { ⌜ now self .len + roomOf (Part.Block left) ≤ longestBody ⌝ }
         requires raw { ⌜ now self .raw ≤ 2 * (now self .len) + 1 ⌝ }
         ensures after { λ _. ⌜ meaning (now (self .exit)) ≡ adds (now (self .entry)) (Part.Block left) b .then ⌝ }
         ensures answer { λ r. ⌜ r ≡ adds (now (self .entry)) (Part.Block left) b .says ⌝ }
@@ -172,7 +173,7 @@ impl Reader {
     }
 
     fn add_text(&mut self, b: u8) -> Result<Heard, Fault>
-        requires room { ⌜ now self .len + 2 ≤ 259 ⌝ }
+        requires room { ⌜ now self .len + roomOf Part.Text ≤ longestBody ⌝ }
         requires raw { ⌜ now self .raw ≤ 2 * (now self .len) + 1 ⌝ }
         ensures after { λ _. ⌜ meaning (now (self .exit)) ≡ adds (now (self .entry)) Part.Text b .then ⌝ }
         ensures answer { λ r. ⌜ r ≡ adds (now (self .entry)) Part.Text b .says ⌝ }
@@ -188,7 +189,7 @@ impl Reader {
 
     // Keeps a byte of the body.
     fn keep(&mut self, b: u8, next: Part) -> Result<Heard, Fault>
-        requires room { ⌜ now self .len + 1 + roomOf next ≤ 259 ⌝ }
+        requires room { ⌜ now self .len + 1 + roomOf next ≤ longestBody ⌝ }
         requires raw { ⌜ now self .raw ≤ 2 * (now self .len) + 1 + outsideOf next ⌝ }
         ensures after { λ _. ⌜ meaning (now (self .exit)) ≡ keeps (now (self .entry)) next b ⌝ }
         ensures answer { λ r. ⌜ r ≡ Ok Heard.More ⌝ }
