@@ -1,1 +1,2 @@
+-- The lemmas of the cases.
 pub mod Proved

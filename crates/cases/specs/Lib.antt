@@ -1,1 +1,2 @@
+-- The cases that are proved.
 pub mod Proved

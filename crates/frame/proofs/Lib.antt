@@ -1,3 +1,4 @@
+-- The lemmas on code bytes, payloads and bodies.
 pub mod Bits
 pub mod Bodies
 pub mod Carried

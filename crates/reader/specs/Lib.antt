@@ -1,3 +1,4 @@
+-- The definitions that the contracts of the reader cite, and its laws.
 pub mod Fault
 pub mod State
 pub mod Read
