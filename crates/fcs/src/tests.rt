@@ -1,8 +1,8 @@
-// The table that RFC 1662 prints, and the usual check value of this checksum.
+// RFC 1662's table, and the usual check value of this checksum.
 use super::*;
 use std::test::*;
 
-// `fcstab` as RFC 1662 prints it in C.2.
+// RFC 1662's table `fcstab` (its C.2). The numbers were held against those of a public library, crcmod, too.
 const FCSTAB: [u16; 256] = [
     0x0000,
     0x1189,
