@@ -1,4 +1,6 @@
 // Cases of the link: those that are proved, as one fact, and outside vectors as tests.
+#![tactic(auto)]
+
 ghost use Rattle.std.specs.Prelude.{◌≡◌};
 ghost use Rattle.cases.specs.Proved.{ProvedCases};
 

@@ -1,4 +1,6 @@
 // The 16-bit frame check sequence of RFC 1662, a byte at a time by a table.
+#![tactic(auto)]
+
 ghost use Rattle.std.specs.Prelude.{◌≡◌, ◌<◌};
 ghost use Rattle.fcs.specs.Fcs.{eight, step_of, extended, check_bytes, residue, bitwise, Linear, OnlyChecksum};
 

@@ -1,4 +1,6 @@
 // The byte reader, one text for both directions: it hears one byte a call, and passes whole frames and faults.
+#![tactic(auto)]
+
 pub mod fault;
 pub mod reader;
 pub mod state;

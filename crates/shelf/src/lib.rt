@@ -1,5 +1,7 @@
 // The shelf: a store of 16 places of its own. The types stand here, since the definitions in specs/ name them;
 // what the shelf does at each call stands in `calls`.
+#![tactic(auto)]
+
 ghost use Rattle.std.specs.Prelude.{◌≡◌, ◌≤◌, length};
 ghost use Rattle.poll.specs.Channel.{last_channel};
 ghost use Rattle.frame.specs.Frame.{longest_block};

@@ -1,4 +1,6 @@
 // An order goes from the terminal over a noisy line to the modem, and what passes on the way is told in words.
+#![tactic(auto)]
+
 mod keeping;
 mod own;
 mod words;

@@ -1,5 +1,7 @@
 // A block store by what it means: for each channel the waiting blocks, oldest first, and a limit.
 // The ends of the link know this interface and no store.
+#![tactic(auto)]
+
 ghost use Rattle.std.specs.Prelude.{◌≡◌, ◌≤◌, length, IfOk};
 ghost use Rattle.frame.specs.Frame.{longest_block};
 ghost use Rattle.store.specs.Meaning.{Meaning, plain, total};

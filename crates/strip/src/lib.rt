@@ -1,5 +1,7 @@
 // The strip: a store in a given area, its records back to back in order of arrival. The types stand here, since
 // the definitions in specs/ name them; what the strip does at each call stands in `calls`, work on bytes in `bytes`.
+#![tactic(auto)]
+
 ghost use Rattle.std.specs.Prelude.{◌≡◌, ◌≤◌, true, ◌++◌, length, drop};
 ghost use Rattle.strip.specs.Records.{record_size, longest_area, limit_of, laid, parsed, all_storable};
 

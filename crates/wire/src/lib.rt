@@ -1,2 +1,4 @@
 // The wire form of a frame, and the writer of both directions.
+#![tactic(auto)]
+
 pub mod writer;

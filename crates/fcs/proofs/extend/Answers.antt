@@ -7,7 +7,7 @@ use Rattle.fcs.proofs.Linear.{bit_serial}
 use Rattle.fcs.proofs.extend.Goals as goal
 
 pub loop-b-preserved : goal.loop-b-preserved
-loop-b-preserved c = search (rules, fold_more, bit_serial c.loop-b.reg (get_or c.args.bytes.now c.loop-b.b-index 0) (c.type-inv.bytes c.loop-b.b-index).fits)
+loop-b-preserved c = search (rules, fold_more, bit_serial c.loop-b.reg (get_or c.args.bytes.now c.loop-b.b-index 0) (c.type_inv.bytes c.loop-b.b-index).fits)
 
 pub returns : goal.returns
 unfolding extended

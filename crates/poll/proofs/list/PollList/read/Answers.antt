@@ -20,8 +20,8 @@ room c =
 pub bounds-channels-len : goal.bounds-channels-len
 bounds-channels-len c = room c
 
-pub overflow-add-len : goal.overflow-add-len
-overflow-add-len c = omega (arith, room c)
+pub overflow_add-len : goal.overflow_add-len
+overflow_add-len c = omega (arith, room c)
 
 pub loop-value-preserved : goal.loop-value-preserved
 loop-value-preserved c =
@@ -31,7 +31,7 @@ loop-value-preserved c =
     let seen = c.loop-value.seen in
     let p = c.number-place.result in
     let inv = c.loop-value.invariant in
-    let was = c.in-ok-new.ensures in
+    let was = c.in_ok-new.ensures in
     let h : i < length xs = omega arith in
     let l : p < length seen = omega (arith, inv.0) in
     let e : p + 1 ≡ v = omega (arith, was.0) in
@@ -46,8 +46,8 @@ loop-value-preserved c =
       left_more (λ (x : Channel). x.number) c.loop-value.channels c.loop-value.len c.channel-channel.result (take i xs) v r n inv.5 ∙ sym m,
     )
 
-pub invariant-of-result : goal.invariant-of-result
-invariant-of-result c = (omega arith, (omega (arith, c.loop-value.invariant.0, c.loop-value.invariant.2, trues_le c.loop-value.seen), tt))
+pub invariant_of-result : goal.invariant_of-result
+invariant_of-result c = record { left = omega arith; few = omega (arith, c.loop-value.invariant.0, c.loop-value.invariant.2, trues_le c.loop-value.seen) }
 
 pub returns : goal.returns
 returns c =
