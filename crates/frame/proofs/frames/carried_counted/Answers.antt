@@ -19,7 +19,7 @@ returns c =
     let rest = c.args.rest.now in
     let part = take_rest rest 1 in
     let l = length-drop 1 rest in
-    let fits : get_or rest 0 0 < 256 = (c.type-inv.rest 0).fits in
+    let fits : get_or rest 0 0 < 256 = (c.type_inv.rest 0).fits in
     let n : length (take (length rest - 1) (drop 1 rest)) ≡ length rest - 1 = ap length part ∙ l in (
       (omega arith, omega arith),
       counted_split rest (omega arith) c.if-n-rest.false ∙ ap (λ (q : List ℕ). (length q - 1) ∷ q) (sym part),
