@@ -18,19 +18,19 @@ pub seal-requires : goal.seal-requires
 seal-requires c =
     let f = framed c.args.head (shows c.args.code c.args.payload.now) in
     room c.args.form f _ c.args.wire.now c.requires (address_byte c.args.head.address) c.if-not-carries.ensures (omega arith)
-    (body_is c.args.form Bare f _ _ [] c.byte-channel.ensures c.code-byte-code.ensures refl c.in-Bare.is)
+    (body_is c.args.form Bare f _ _ [] c.byte-channel.ensures c.code_byte-code.ensures refl c.in-Bare.is)
 
 pub seal-requires-in-Text : goal.seal-requires-in-Text
 seal-requires-in-Text c =
     let f = framed c.args.head (shows c.args.code c.args.payload.now) in
     room c.args.form f _ c.args.wire.now c.requires (address_byte c.args.head.address) c.if-not-carries.ensures (omega arith)
-    (body_is c.args.form Text f _ _ _ c.byte-channel.ensures c.code-byte-code.ensures refl c.in-Text.is)
+    (body_is c.args.form Text f _ _ _ c.byte-channel.ensures c.code_byte-code.ensures refl c.in-Text.is)
 
 pub seal-requires-in-Counted : goal.seal-requires-in-Counted
 seal-requires-in-Counted c =
     let f = framed c.args.head (shows c.args.code c.args.payload.now) in
     room c.args.form f _ c.args.wire.now c.requires (address_byte c.args.head.address) c.if-not-carries.ensures (omega arith)
-    (body_is c.args.form Counted f _ _ _ c.byte-channel.ensures c.code-byte-code.ensures
+    (body_is c.args.form Counted f _ _ _ c.byte-channel.ensures c.code_byte-code.ensures
     (ap (λ (l : List ℕ). (length c.args.payload.now - 1) ∷ l) (append-nil c.args.payload.now)) c.in-Counted.is)
 
 pub returns-in-Bare : goal.returns-in-Bare
@@ -38,7 +38,7 @@ returns-in-Bare c =
     let f = framed c.args.head (shows c.args.code c.args.payload.now) in
     laid c.args.form f _ c.args.wire.now c.seal.new.wire c.seal.result c.requires (address_byte c.args.head.address)
     c.if-not-carries.ensures (omega arith)
-    (body_is c.args.form Bare f _ _ [] c.byte-channel.ensures c.code-byte-code.ensures refl c.in-Bare.is)
+    (body_is c.args.form Bare f _ _ [] c.byte-channel.ensures c.code_byte-code.ensures refl c.in-Bare.is)
     c.seal.ensures.length c.seal.ensures.after
 
 pub returns-in-Text : goal.returns-in-Text
@@ -46,7 +46,7 @@ returns-in-Text c =
     let f = framed c.args.head (shows c.args.code c.args.payload.now) in
     laid c.args.form f _ c.args.wire.now c.seal-in-Text.new.wire c.seal-in-Text.result c.requires (address_byte c.args.head.address)
     c.if-not-carries.ensures (omega arith)
-    (body_is c.args.form Text f _ _ _ c.byte-channel.ensures c.code-byte-code.ensures refl c.in-Text.is)
+    (body_is c.args.form Text f _ _ _ c.byte-channel.ensures c.code_byte-code.ensures refl c.in-Text.is)
     c.seal-in-Text.ensures.length c.seal-in-Text.ensures.after
 
 pub returns-in-Counted : goal.returns-in-Counted
@@ -54,6 +54,6 @@ returns-in-Counted c =
     let f = framed c.args.head (shows c.args.code c.args.payload.now) in
     laid c.args.form f _ c.args.wire.now c.seal-in-Counted.new.wire c.seal-in-Counted.result c.requires (address_byte c.args.head.address)
     c.if-not-carries.ensures (omega arith)
-    (body_is c.args.form Counted f _ _ _ c.byte-channel.ensures c.code-byte-code.ensures
+    (body_is c.args.form Counted f _ _ _ c.byte-channel.ensures c.code_byte-code.ensures
     (ap (λ (l : List ℕ). (length c.args.payload.now - 1) ∷ l) (append-nil c.args.payload.now)) c.in-Counted.is)
     c.seal-in-Counted.ensures.length c.seal-in-Counted.ensures.after

@@ -22,7 +22,7 @@ returns g c =
     record {
       step = record {
         host_is = λ ch reset reply inn l. counted h (host_of c.take.new.self) h.poll_list c.args.toggle _ _ k c.take.ensures.after c.count-gone-number.ensures.submitted c.count-gone-number.ensures.gone c.requires.0 c.requires.1;
-        out_is = λ ch reset reply inn. c.drop_first_step.ensures.after ∙ ap (λ (x : ℕ). drop_after (g.O.Store.meaning c.args.out.now) x) c.number.ensures.value ∙ ap (λ (w : Word). leaves w (g.O.Store.meaning c.args.out.now)) (sym named);
+        out_is = λ ch reset reply inn. c.drop_first.ensures.after ∙ ap (λ (x : ℕ). drop_after (g.O.Store.meaning c.args.out.now) x) c.number.ensures.value ∙ ap (λ (w : Word). leaves w (g.O.Store.meaning c.args.out.now)) (sym named);
         word_is = λ ch reset reply inn. word;
         answer_is = λ ch reset reply inn. ap (λ (w : Word). Ok (confirmed_by w)) word;
       };
