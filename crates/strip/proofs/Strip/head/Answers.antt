@@ -8,8 +8,8 @@ pub bounds-self-at : goal.bounds-self-at
 bounds-self-at c =
     let r = read_at c.args.self.now c.args.found.index c.args.found.at c.requires.within c.requires.here in omega arith
 
-pub overflow-add-result : goal.overflow-add-result
-overflow-add-result c =
+pub overflow_add-result : goal.overflow_add-result
+overflow_add-result c =
     let r = read_at c.args.self.now c.args.found.index c.args.found.at c.requires.within c.requires.here in
     omega (arith, c.args.self.now.high)
 

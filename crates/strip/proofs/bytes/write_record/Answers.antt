@@ -5,4 +5,4 @@ use Rattle.strip.proofs.bytes.write_record.Goals as goal
 
 pub returns : goal.returns
 returns c =
-    written c.args.area.now c.copy-from-slice.new.self c.args.block.now c.args.at c.args.channel _ _ (omega arith) (omega arith) c.copy-from-slice.ensures.after
+    written c.args.area.now c.copy_from_slice.new.self c.args.block.now c.args.at c.args.channel _ _ (omega arith) (omega arith) c.copy_from_slice.ensures.after

@@ -24,8 +24,8 @@ returns-in-Some c =
     let r = c.args.self.now in
     let known = c.in-Some.ensures ∙ ap (form_of r.direction) (and_mask c.args.b 6) in
     record {
-      after = kept r.direction c.in-Some.form c.after-code.result _ ((meaning r).bytes ++ c.args.b ∷ []) (r.raw + 1) _
-          c.keep.ensures.after c.after-code.ensures.value known;
+      after = kept r.direction c.in-Some.form c.after_code.result _ ((meaning r).bytes ++ c.args.b ∷ []) (r.raw + 1) _
+          c.keep.ensures.after c.after_code.ensures.value known;
       answer = c.keep.ensures.answer ∙ ap (λ (o : Option Form). (next r c.args.b o).says) known;
     }
 

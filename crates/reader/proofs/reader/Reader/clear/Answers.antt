@@ -3,5 +3,5 @@ use Rattle.std.proofs.Common.{sym, arith}
 use Rattle.reader.proofs.Fields.{register_none}
 use Rattle.reader.proofs.reader.Reader.clear.Goals as goal
 
-pub invariant-of-self : goal.invariant-of-self
-invariant-of-self c = (omega (arith, c.requires), (omega arith, (sym register_none, tt)))
+pub invariant_of-self : goal.invariant_of-self
+invariant_of-self c = record { fits = omega (arith, c.requires); counted = omega arith; summed = sym register_none }

@@ -7,16 +7,14 @@ use Rattle.reader.specs.Read.{at}
 use Rattle.reader.proofs.Fields.{register_more}
 use Rattle.reader.proofs.reader.Reader.keep.Goals as goal
 
-pub invariant-of-self : goal.invariant-of-self
-invariant-of-self c =
+pub invariant_of-self : goal.invariant_of-self
+invariant_of-self c =
     let r = c.args.self.now in
-    let h : r.len < length r.body = omega (arith, c.requires.room) in (
-      omega (arith, c.requires.room),
-      (
-        omega (arith, c.requires.raw),
-        (c.step-self.ensures.value ∙ ap (λ (x : ℕ). step_of x c.args.b) r.summed ∙ sym (register_more r.body r.len c.args.b h), tt),
-      ),
-    )
+    let h : r.len < length r.body = omega (arith, c.requires.room) in record {
+      fits = omega (arith, c.requires.room);
+      counted = omega (arith, c.requires.raw);
+      summed = c.step-self.ensures.value ∙ ap (λ (x : ℕ). step_of x c.args.b) r.summed ∙ sym (register_more r.body r.len c.args.b h);
+    }
 
 pub returns : goal.returns
 returns c =

@@ -5,8 +5,8 @@ use Rattle.reader.proofs.Fields.{register_none}
 use Rattle.reader.proofs.Trip.{round_trip, written_passes}
 use Rattle.reader.proofs.reader.Reader.new.Goals as goal
 
-pub invariant-of-result : goal.invariant-of-result
-invariant-of-result c = (omega arith, (omega arith, (sym register_none, tt)))
+pub invariant_of-result : goal.invariant_of-result
+invariant_of-result c = record { fits = omega arith; counted = omega arith; summed = sym register_none }
 
 pub returns : goal.returns
 returns c = record { value = refl; round_trip = round_trip; written_passes = written_passes; one_wire_form = one_wire_form c.args.direction; counts = counts_raw c.args.direction }

@@ -21,4 +21,4 @@ loop-i-preserved c =
 pub returns : goal.returns
 returns c =
     let u = used_is c.args.self.now in
-    count_end c.args.channel (entries c.args.self.now) c.loop-i.i c.loop-i.n place_count c.if-channel-gt-LAST-CHANNEL.false (omega arith) c.loop-i.invariant.1
+    count_end c.args.channel (entries c.args.self.now) c.loop-i.i c.loop-i.n place_count c.if-channel-gt-LAST_CHANNEL.false (omega arith) c.loop-i.invariant.1

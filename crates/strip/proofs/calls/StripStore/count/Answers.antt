@@ -19,4 +19,4 @@ loop-index-preserved c =
 pub returns : goal.returns
 returns c =
     let l = held_is c.args.self.now in
-    count_end c.args.channel (records c.args.self.now) c.loop-index.index c.loop-index.n (limit_of (length (area_of c.args.self.now))) c.if-channel-gt-LAST-CHANNEL.false (omega arith) c.loop-index.invariant.2
+    count_end c.args.channel (records c.args.self.now) c.loop-index.index c.loop-index.n (limit_of (length (area_of c.args.self.now))) c.if-channel-gt-LAST_CHANNEL.false (omega arith) c.loop-index.invariant.2
