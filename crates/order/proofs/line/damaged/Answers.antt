@@ -9,7 +9,7 @@ pub returns : goal.returns
 returns c =
     let wire = c.args.wire.now in
     let turned : ℕ = bit_xor (get_or wire 5 0) 1 in
-    let copy = c.in-ok-copy.ensures.items in
+    let copy = c.in_ok-copy.ensures.items in
     elim c.if-wire-gt-DAMAGED.branch [
       | then-wire-gt-DAMAGED w ↦ ap vec_items w.copy-is ∙ ap (λ (l : List ℕ). set l 5 turned) copy
       | else-wire-gt-DAMAGED w ↦ ap vec_items w.copy-is ∙ copy ∙ sym (set_past wire 5 turned w.if-wire-gt-DAMAGED.false)

@@ -7,7 +7,7 @@ use Rattle.order.proofs.line.marked.Goals as goal
 
 pub returns : goal.returns
 returns c =
-    let front = c.in-ok-copy.ensures.items in
-    let stray = pushed (170 ∷ 1 ∷ []) front c.in-ok-extend-from-slice.was c.extend-from-slice.ensures.items in
-    let all = pushed _ stray c.in-ok-extend-from-slice-2.was c.extend-from-slice-2.ensures.items in
+    let front = c.in_ok-copy.ensures.items in
+    let stray = pushed (170 ∷ 1 ∷ []) front c.in_ok-extend_from_slice.was c.extend_from_slice.ensures.items in
+    let all = pushed _ stray c.in_ok-extend_from_slice-2.was c.extend_from_slice-2.ensures.items in
     all ∙ simp (append_assoc, take_rest, sub-zero)

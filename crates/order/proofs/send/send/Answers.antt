@@ -13,7 +13,7 @@ loop-number-init c = ap (λ (l : List ℕ). l ++ line_from 0 (blocks_of c.args.t
 pub loop-number-preserved : goal.loop-number-preserved
 loop-number-preserved c =
     line_more _ _ (blocks_of c.args.text.now) c.loop-number.number _ _ (omega arith) c.in-Some.ensures.listed
-    c.loop-number.invariant c.in-ok-send-block.ensures.1
+    c.loop-number.invariant c.in_ok-send_block.ensures.1
 
 pub returns : goal.returns
 returns c =

@@ -10,9 +10,9 @@ use Rattle.order.proofs.send.send_block.Goals as goal
 pub returns : goal.returns
 unfolding piece_of
 returns c =
-    let f = c.in-ok-n.ensures in
+    let f = c.in_ok-n.ensures in
     let before : List ℕ = vec_items c.args.line.now in
-    let sent : List ℕ = disturbed c.turn.result (take (c.in-ok-n.n - 0) c.framed.new.wire) in
-    let a = pushed {was = before} sent refl c.in-ok-disturb.was c.disturb.ensures in
+    let sent : List ℕ = disturbed c.turn.result (take (c.in_ok-n.n - 0) c.framed.new.wire) in
+    let a = pushed {was = before} sent refl c.in_ok-disturb.was c.disturb.ensures in
     let on = a ∙ ap (λ (l : List ℕ). before ++ l) (ap₂ disturbed c.turn.ensures (ap (λ (n : ℕ). take n c.framed.new.wire) (sub-zero _) ∙ f.2)) in
     (f.0, on, passes_last c.args.number c.args.bytes.now before _ f.0 on)

@@ -7,12 +7,10 @@ use Rattle.ends.specs.Line.{FromStart}
 use Rattle.ends.proofs.Line.{one_more}
 use Rattle.ends.proofs.ear.Ear.hear.Goals as goal
 
-pub invariant-of-self : goal.invariant-of-self
-invariant-of-self c =
-    let fits : c.args.byte < 256 = omega arith in (
-      ∥∥₁_map c.args.self.now.line (λ s. subst FromStart (sym c.hear.ensures.after) (one_more (meaning c.args.self.now.reader) c.args.byte fits s)),
-      tt,
-    )
+pub invariant_of-self : goal.invariant_of-self
+invariant_of-self c =
+    let fits : c.args.byte < 256 = omega arith in
+    record { line = ∥∥₁_map c.args.self.now.line (λ s. subst FromStart (sym c.hear.ensures.after) (one_more (meaning c.args.self.now.reader) c.args.byte fits s)) }
 
 pub returns : goal.returns
 returns c = record {
