@@ -1,2 +1,3 @@
 -- The lemmas of the cases.
 pub mod Proved
+mod Stores

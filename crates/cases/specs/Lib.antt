@@ -1,2 +1,3 @@
 -- The cases that are proved.
 pub mod Proved
+pub mod Stores

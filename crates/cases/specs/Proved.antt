@@ -1,5 +1,5 @@
 -- The cases that are proved, together, as one fact of the rules.
-use Rattle.std.specs.Prelude.{◌≡◌, ℕ, ◌≤◌, true, false, List, [], ◌∷◌, length, replicate, Ok, Err, Result, ◌≢◌}
+use Rattle.std.specs.Prelude.{◌≡◌, ℕ, true, false, List, [], ◌∷◌, length, replicate, Ok, Err, Result}
 use Rattle.poll.specs.List.{list_of}
 use Rattle.frame.specs.declared.form.Direction.{Direction}
 use Rattle.frame.specs.declared.form.Form.TheVariants as form
@@ -13,12 +13,6 @@ use Rattle.reader.specs.declared.state.State.TheVariants.{Inside}
 use Rattle.reader.specs.Fault.{fault_number}
 use Rattle.reader.specs.Read.{at, fresh, fault_of, hears}
 use Rattle.reader.specs.Laws.{after}
-use Rattle.store.specs.declared.refusal.Refusal.TheVariants.{BadChannel, BadLength}
-use Rattle.store.specs.Meaning.{Block, Meaning, total}
-use Rattle.store.specs.Rules.{put_answer, put_after}
-use Rattle.store.specs.Refusal as stores
-use Rattle.strip.specs.declared.Strip.{Strip}
-use Rattle.strip.specs.Shown.{area_of, shown}
 
 -- a frame of the host on channel 33
 abbrev pub information : List ℕ → Frame
@@ -46,14 +40,3 @@ pub record ProvedCases : Type 0 where
   pub code_87 : (code_in 135 ≡ 7) × (reset_in 135 ≡ false) × (toggle_in 135 ≡ true)
   -- an empty list after a reset of toggle 0 is FF 41 00
   pub empty_list_body : body_of form.Text empty_list ≡ 255 ∷ 65 ∷ 0 ∷ []
-  -- a block of 256 bytes goes into a store that has room, and 257 give refusal 11
-  pub block_256 : (m : Meaning) (c : ℕ) (b : Block) → c ≤ 63 → (total m ≢ m.limit) → length b.bytes ≡ 256 → put_answer m c b ≡ Ok tt
-  pub block_257 : (m : Meaning) (c : ℕ) (b : Block) → c ≤ 63 → length b.bytes ≡ 257 → (put_answer m c b ≡ Err BadLength) × (put_after m c b ≡ m)
-  pub number_11 : stores.refusal_number BadLength ≡ 11
-  -- a block on channel 63 goes into a store that has room, and channel 64 gives refusal 10
-  pub channel_63 : (m : Meaning) (b : Block) → 1 ≤ length b.bytes → length b.bytes ≤ 256 → (total m ≢ m.limit) → put_answer m 63 b ≡ Ok tt
-  pub channel_64 : (m : Meaning) (b : Block) → (put_answer m 64 b ≡ Err BadChannel) × (put_after m 64 b ≡ m)
-  pub number_10 : stores.refusal_number BadChannel ≡ 10
-  -- a strip of 516 bytes has limit 2, one of 515 limit 1
-  pub strip_516 : (s : Strip) → length (area_of s) ≡ 516 → (shown s).limit ≡ 2
-  pub strip_515 : (s : Strip) → length (area_of s) ≡ 515 → (shown s).limit ≡ 1

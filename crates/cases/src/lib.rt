@@ -3,6 +3,7 @@
 
 ghost use Rattle.std.specs.Prelude.{◌≡◌};
 ghost use Rattle.cases.specs.Proved.{ProvedCases};
+ghost use Rattle.cases.specs.Stores.{StoreCases};
 
 #[cfg(test)]
 mod frame_case;
@@ -25,8 +26,16 @@ mod tnc_frames;
 
 /// How many cases are proved, and that each of them holds of the rules.
 pub fn proved_cases() -> u8
-    ensures count { result ≡ 9 }
+    ensures count { result ≡ 6 }
     ensures hold { ProvedCases }
 {
-    9
+    6
+}
+
+/// How many cases of the stores are proved, and that each of them holds of the rules.
+pub fn proved_store_cases() -> u8
+    ensures count { result ≡ 3 }
+    ensures hold { StoreCases }
+{
+    3
 }

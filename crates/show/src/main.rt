@@ -1,25 +1,14 @@
 // An order goes from the terminal over a noisy line to the modem, and what passes on the way is told in words.
 #![tactic(auto)]
 
-mod keeping;
 mod own;
-mod words;
 
-use crate::keeping::keep_order;
-use crate::words::{named, why};
 use order::blocks::block_count;
 use order::receive::{Event, HearError, Receiver};
 use order::send::{CHANNEL, send};
-use reader::fault::Fault;
-use shelf::Shelf;
+use reader::fault::{Fault, Reason};
 use std::io;
 use std::io::Read;
-use store::Store;
-use strip::refusal::check;
-use strip::{RECORD, Strip};
-
-// The area of the strip that the order is kept in: room for four blocks.
-const AREA: usize = 4 * RECORD;
 
 // What came over the line so far.
 #[derive(Clone, Copy)]
@@ -48,10 +37,7 @@ fn main(rt: HostRuntime) -> io::Result<()> {
     let blocks = named(count, "block", "blocks");
     println!(rt; "Order: {len} {bytes} in {count} {blocks} for channel {CHANNEL}.")?;
     match send(rt.alloc(), text.as_slice()) {
-        Ok(line) => {
-            deliver(&rt, text.as_slice(), line.as_slice())?;
-            keep(&rt, text.as_slice(), line.as_slice())
-        }
+        Ok(line) => deliver(&rt, text.as_slice(), line.as_slice()),
         Err(_) => println!(rt; "The order was not sent: there is no memory for it."),
     }
 }
@@ -122,8 +108,24 @@ fn tell_fault(rt: &HostRuntime, place: usize, fault: Fault) -> io::Result<()> {
     let number = fault.number();
     let count = fault.count;
     let bytes = named(usize::from(count), "byte", "bytes");
-    let why = why(fault.reason);
+    let why = words(fault.reason);
     println!(rt; "byte {place}: fault {number} after {count} {bytes}: {why}. The frame is dropped.")
+}
+
+fn words(reason: Reason) -> &'static str {
+    match reason {
+        Reason::StrayMark => "a stray AA inside the frame",
+        Reason::BadChannel => "no such channel",
+        Reason::UnknownCode => "no such kind of frame",
+        Reason::EndlessText => "a text without an end",
+        Reason::BadChecksum => "the checksum is wrong",
+        Reason::NewFrame => "a new frame began before this one ended",
+    }
+}
+
+// The word for so many.
+fn named(n: usize, one: &'static str, many: &'static str) -> &'static str {
+    if n == 1 { one } else { many }
 }
 
 fn conclude(rt: &HostRuntime, tally: Tally, receiver: &Receiver, text: &[u8]) -> io::Result<()> {
@@ -142,22 +144,5 @@ fn conclude(rt: &HostRuntime, tally: Tally, receiver: &Receiver, text: &[u8]) ->
         println!(rt;
             "The order did not arrive as it was sent: {came} {bytes} came, and {sent} were sent."
         )
-    }
-}
-
-// Keeps the order in a store of each kind, and collects it.
-fn keep(rt: &HostRuntime, text: &[u8], line: &[u8]) -> io::Result<()> {
-    let mut shelf = Shelf::new();
-    keep_order(rt, "Shelf", &mut shelf, line, text)?;
-    let mut area = [0; AREA];
-    match check(&area) {
-        Ok(()) => {
-            let mut strip = Strip::new(&mut area);
-            keep_order(rt, "Strip", &mut strip, line, text)
-        }
-        Err(refusal) => {
-            let number = refusal.number();
-            println!(rt; "No strip is made of {AREA} bytes: refusal {number}.")
-        }
     }
 }

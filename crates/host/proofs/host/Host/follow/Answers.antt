@@ -31,6 +31,6 @@ falls_by m toggle why h after out out_after f is answer named then left =
 
 pub returns-in-Falls : goal.returns-in-Falls
 returns-in-Falls g c = record {
-  step = falls_by c.args.met c.args.toggle c.in-Falls.cause _ _ _ _ _ c.in-Falls.is c.go-down.ensures.answer c.go-down.ensures.named c.go-down.ensures.after c.go-down.ensures.out;
-  ear = c.go-down.ensures.ear;
+  step = falls_by c.args.met c.args.toggle c.in-Falls.cause _ _ _ _ _ c.in-Falls.is c.go_down.ensures.answer c.go_down.ensures.named c.go_down.ensures.after c.go_down.ensures.out;
+  ear = c.go_down.ensures.ear;
 }

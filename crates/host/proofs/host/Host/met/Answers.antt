@@ -18,18 +18,18 @@ returns-in-Block g c =
     let s = c.args.self.now.sent in
     let q = block_request c.in-Block.channel.number false s.toggle (block_in s) in
     in-sequence c.args.self.now c.in-OnItsWay.field-0 c.in-OnItsWay.is q (ap (λ (x : Asked). asked_request x false s.toggle (block_in s)) (sym c.in-Block.ensures)) _ _ (answer_shown c.args.head c.args.frame) _
-    c.if-head.false (same_toggle _ _ _ c.toggle.ensures c.if-head-toggle.false) (c.to-block.ensures false s.toggle (block_in s) _)
+    c.if-head.false (same_toggle _ _ _ c.toggle.ensures c.if-head-toggle.false) (c.to_block.ensures false s.toggle (block_in s) _)
 
 pub returns-in-ChannelPoll : goal.returns-in-ChannelPoll
 returns-in-ChannelPoll g c =
     let s = c.args.self.now.sent in
     let q = poll_request c.in-ChannelPoll.channel.number false s.toggle in
     in-sequence c.args.self.now c.in-OnItsWay.field-0 c.in-OnItsWay.is q (ap (λ (x : Asked). asked_request x false s.toggle (block_in s)) (sym c.in-ChannelPoll.ensures)) _ _ (answer_shown c.args.head c.args.frame) _
-    c.if-head.false (same_toggle _ _ _ c.toggle.ensures c.if-head-toggle.false) (c.to-poll.ensures false s.toggle)
+    c.if-head.false (same_toggle _ _ _ c.toggle.ensures c.if-head-toggle.false) (c.to_poll.ensures false s.toggle)
 
 pub returns-in-GeneralPoll : goal.returns-in-GeneralPoll
 returns-in-GeneralPoll g c =
     let s = c.args.self.now.sent in
     let q = poll_request general false s.toggle in
     in-sequence c.args.self.now c.in-OnItsWay.field-0 c.in-OnItsWay.is q (ap (λ (x : Asked). asked_request x false s.toggle (block_in s)) (sym c.in-GeneralPoll.ensures)) _ _ (answer_shown c.args.head c.args.frame) _
-    c.if-head.false (same_toggle _ _ _ c.toggle.ensures c.if-head-toggle.false) (c.to-general.ensures false s.toggle _)
+    c.if-head.false (same_toggle _ _ _ c.toggle.ensures c.if-head-toggle.false) (c.to_general.ensures false s.toggle _)

@@ -13,6 +13,6 @@ returns-in-Some-lowest g c =
     let w = (g.O.Store.meaning c.args.out.now).waiting in
     let toggle : Bool = not c.args.self.now.last in
     let low = c.in-Some-lowest.ensures in
-    let p = sends_block w c.in-Some-lowest.channel.number toggle (sent_request c.first-block.result) low.0 low.1 c.first-block.ensures in
-    let e = pick_lowest h.block_refused h.poll_list w c.if-self.false c.in-default.ensures in
+    let p = sends_block w c.in-Some-lowest.channel.number toggle (sent_request c.first_block.result) low.0 low.1 c.first_block.ensures in
+    let e = pick_lowest h.block_refused h.poll_list w c.if-self.false c.in_default.ensures in
     record { rule = p.0 ∙ sym (ap step_rule_of e); sent = p.1 ∙ sym (ap (request_for toggle) e) }

@@ -11,10 +11,10 @@ use Rattle.host.proofs.sent.sending.write_poll.Goals as goal
 pub unreachable-requires : goal.unreachable-requires
 unreachable-requires c =
     let q = poll_request (byte_of c.args.address) c.args.reset c.args.toggle in
-    never_refused FromHost (request_frame q) (request_body q) c.args.wire.now c.write-host.new.wire c.in-default.field-0 (request_body_is q (poll_fits _ _ _ (address_fits c.args.address))) c.requires c.in-default.ensures.answer
+    never_refused FromHost (request_frame q) (request_body q) c.args.wire.now c.write_host.new.wire c.in_default.field-0 (request_body_is q (poll_fits _ _ _ (address_fits c.args.address))) c.requires c.in_default.ensures.answer
 
 pub returns : goal.returns
 returns c =
     let q = poll_request (byte_of c.args.address) c.args.reset c.args.toggle in
-    let w = wrote FromHost (request_frame q) (request_body q) c.args.wire.now c.write-host.new.wire c.in-Ok.n (request_body_is q (poll_fits _ _ _ (address_fits c.args.address))) c.in-Ok.ensures.answer in
+    let w = wrote FromHost (request_frame q) (request_body q) c.args.wire.now c.write_host.new.wire c.in-Ok.n (request_body_is q (poll_fits _ _ _ (address_fits c.args.address))) c.in-Ok.ensures.answer in
     record { value = w.value; wire = w.wire }

@@ -1,5 +1,5 @@
 // The order kept in a store as it comes in: how many blocks wait there, and what they are when they are collected.
-use crate::words::named;
+use crate::named;
 use order::receive::{Event, Receiver};
 use order::send::CHANNEL;
 use std::io;

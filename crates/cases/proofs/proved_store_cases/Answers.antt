@@ -1,0 +1,7 @@
+-- The cases stand in the lemma file.
+use Rattle.std.proofs.Common.{refl}
+use Rattle.cases.proofs.Stores.{store_cases_hold}
+use Rattle.cases.proofs.proved_store_cases.Goals as goal
+
+pub returns : goal.returns
+returns c = record { count = refl; hold = store_cases_hold }
