@@ -1,5 +1,5 @@
 -- Frames that can be sent: each has a body, and that body is read as the frame that it was made of.
-use Rattle.std.proofs.Common.{◌≡◌, ℕ, zero, suc, ◌+◌, ◌<◌, ◌≤◌, Bool, true, false, cond, not, ◌&&◌, eqb, leb, List, [], ◌∷◌, ◌++◌, length, get_or, take, drop, set, replicate, Some, Option, sym, refl, ap, ◌∙◌, arith, length-set}
+use Rattle.std.proofs.Common.{◌≡◌, ℕ, zero, suc, ◌<◌, ◌≤◌, Bool, true, false, cond, not, ◌&&◌, eqb, leb, List, [], ◌∷◌, ◌++◌, length, get_or, take, drop, set, replicate, Some, Option, sym, refl, ap, ◌∙◌, arith, length-set}
 use Rattle.std.proofs.lemmas.List.{get_or-set_other, get_or-replicate, length_push, nil_from_length}
 use Rattle.std.proofs.lemmas.Bool.{false≢true, not-true, not_from_false, leb-true, le-leb, eqb-false, ne_eqb, and_parts, and_from, cond-false}
 use Rattle.poll.specs.Channel.{last_channel, channels}

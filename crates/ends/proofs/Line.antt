@@ -2,7 +2,7 @@
 use Rattle.std.proofs.Common.{◌≡◌, ℕ, ◌<◌, List, [], ◌∷◌, ◌++◌, Some, sym, ap, ◌∙◌, arith}
 use Rattle.frame.specs.declared.form.Direction.{Direction}
 use Rattle.reader.specs.Read.{Meaning, fresh, passed, hears}
-use Rattle.reader.specs.Laws.{Bytes, after}
+use Rattle.reader.specs.Laws.{after}
 use Rattle.reader.proofs.Runs.{after_append, direction_kept}
 use Rattle.reader.proofs.Tracks.{bytes_push}
 use Rattle.reader.proofs.Counts.{one_wire_form}

@@ -1,11 +1,11 @@
 -- Blocks and their numbers at either end: what an answer names, what then leaves its store, submitting and collecting.
-use Rattle.std.specs.Prelude.{ℕ, suc, min, Bool, true, false, cond, ◌&&◌, ◌||◌, List, [], ◌∷◌, length, Ok, Err, Result, ◌==◌, nat_lt}
+use Rattle.std.specs.Prelude.{ℕ, suc, min, Bool, true, false, cond, ◌&&◌, ◌||◌, length, Ok, Err, Result, ◌==◌, nat_lt}
 use Rattle.poll.specs.Channel.{last_channel}
 use Rattle.frame.specs.Frame.{longest_block}
 use Rattle.store.specs.declared.refusal.Refusal.TheVariants.{BadChannel, BadLength}
 use Rattle.store.specs.declared.refusal.Refusal as stores
 use Rattle.store.specs.Meaning.{Block, Meaning}
-use Rattle.store.specs.Rules.{if_granted, put_answer, joined, first_waiting, copy_source, length_of, drop_after}
+use Rattle.store.specs.Rules.{if_granted, put_answer, joined, copy_source, length_of, drop_after}
 use Rattle.ends.specs.declared.refusal.Refusal.{Refusal}
 use Rattle.ends.specs.declared.refusal.Refusal.TheVariants.{Store, NumbersUsed}
 use Rattle.ends.specs.Limits.{last_number}

@@ -1,5 +1,5 @@
 -- The TNC end: what it keeps, and its rules. Each call's contract cites these, and runs of the link are made of them.
-use Rattle.std.specs.Prelude.{ℕ, zero, suc, Bool, true, false, cond, not, ◌&&◌, List, [], ◌∷◌, ◌++◌, ◌==◌}
+use Rattle.std.specs.Prelude.{ℕ, zero, suc, Bool, true, false, cond, ◌&&◌, List, [], ◌∷◌, ◌++◌, ◌==◌}
 use Rattle.std.specs.Bool.{beq}
 use Rattle.poll.specs.Channel.{channels}
 use Rattle.poll.specs.List.{list_of}

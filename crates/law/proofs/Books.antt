@@ -1,6 +1,5 @@
 -- One way, one channel: what is gone, with its blocks; the word of an answer; the law from the books.
-use Rattle.std.proofs.Common.{◌≡◌, ℕ, zero, suc, pred, ◌+◌, ◌-◌, ◌<◌, ◌≤◌, min, Bool, true, false, cond, not, ◌&&◌, eqb, ltb, ◌⊎◌, List, [], ◌∷◌, ◌++◌, length, get_or, drop, sym, refl, ap, ◌∙◌, subst, subst₂, inl, inr, append_assoc, append-nil, arith, length-append, eqb-true}
-use borrow.Author.Tests.{eqb-false}
+use Rattle.std.proofs.Common.{◌≡◌, ℕ, suc, ◌+◌, ◌<◌, ◌≤◌, Bool, true, false, cond, eqb, List, [], ◌∷◌, ◌++◌, length, get_or, drop, sym, refl, ap, ◌∙◌, subst, subst₂, append_assoc, append-nil, arith, length-append, eqb-true}
 use Rattle.poll.specs.Channel.{last_channel}
 use Rattle.store.specs.Rules.{drop_after}
 use Rattle.store.specs.Meaning.{Block, Meaning, plain}

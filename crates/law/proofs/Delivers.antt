@@ -1,5 +1,5 @@
 -- The law of a world that has the invariant: the books of each way and channel, read as the law states them.
-use Rattle.std.proofs.Common.{◌≡◌, ℕ, ◌≤◌, Bool, true, false, ◌⊎◌, List, [], ◌++◌, sym, refl, ap, ◌∙◌, inl, inr, ⊎_elim, append-nil, arith}
+use Rattle.std.proofs.Common.{◌≡◌, ℕ, ◌≤◌, Bool, true, false, List, [], ◌++◌, sym, ⊎_elim, append-nil, arith}
 use native.Mathlib.Decide.{ℕ_discrete}
 use Rattle.poll.specs.Channel.{last_channel}
 use Rattle.store.specs.Meaning.{Block}

@@ -1,7 +1,6 @@
 -- Each call keeps the invariant: the transmissions, and on each channel both ways.
-use Rattle.std.proofs.Common.{◌≡◌, ℕ, zero, suc, ◌<◌, ◌≤◌, Bool, true, false, cond, not, ◌&&◌, ◌||◌, eqb, ltb, ◌⊎◌, List, [], ◌∷◌, ◌++◌, length, Ok, Err, Result, sym, refl, ap, ◌∙◌, subst, inl, inr, ⊎_elim, append_assoc, append-nil, arith, eqb-true}
+use Rattle.std.proofs.Common.{◌≡◌, ℕ, zero, suc, ◌<◌, ◌≤◌, Bool, true, false, cond, ◌&&◌, ◌||◌, eqb, ltb, List, [], ◌∷◌, ◌++◌, length, Err, Result, sym, refl, ap, ◌∙◌, subst, append_assoc, append-nil, arith, eqb-true}
 use mathlib.Core.Bool.{beq}
-use native.Mathlib.Decide.{ℕ_discrete}
 use borrow.Author.Tests.{eqb-false}
 use Rattle.poll.specs.Channel.{last_channel}
 use Rattle.frame.specs.Frame.{general, longest_block}
@@ -14,9 +13,9 @@ use Rattle.reader.specs.Read as reader
 use Rattle.ends.specs.Limits.{last_number}
 use Rattle.ends.specs.Frames.{Load, poll, information, command, Request, Reply, success, message, failure, block, other, Answer, Cargo, empty, holds, cargo_of, cargo_in, is_good}
 use Rattle.ends.specs.Blocks.{granted, numbered, submit_answer}
-use Rattle.ends.specs.Host.{State, fresh, opening, idle, on_its_way, down, Host, in_state, stays, Pick, pick, next_request, reset_request, aboard, aboard_on, goes_down, HostRule, stale, spare_used, opened, confirmed, block_refused, nothing_there, received, listed, no_room, falls, out_of_sequence_rule, to_block_rule, to_poll_rule, to_general, to_load, in_sequence, is_good_list, room_for, stores_in, by_hear}
-use Rattle.ends.specs.Tnc.{TncRule, flagged, early, resets, again, accepts, tnc_rule, tnc_word, is_general_poll, reply_to, has_place, accepted_answer, reset_answer, out_after, by_tnc, no_place, no_channel}
-use Rattle.law.specs.Runs.{Named, doubtful, World, Limits, begin, request_at, answer_at, no_request, after_host, after_tnc, host_submits, tnc_submits, host_collects, tnc_collects, opens, steps, times, with_readers}
+use Rattle.ends.specs.Host.{State, fresh, opening, idle, on_its_way, down, Host, stays, Pick, pick, next_request, reset_request, aboard, aboard_on, goes_down, HostRule, opened, confirmed, block_refused, nothing_there, received, listed, no_room, falls, out_of_sequence_rule, to_block_rule, to_poll_rule, to_general, to_load, in_sequence, is_good_list, room_for, stores_in, by_hear}
+use Rattle.ends.specs.Tnc.{TncRule, flagged, early, resets, again, accepts, tnc_rule, is_general_poll, reply_to, has_place, accepted_answer, reset_answer, out_after, by_tnc, no_place, no_channel}
+use Rattle.law.specs.Runs.{Named, World, Limits, begin, request_at, answer_at, no_request, after_host, after_tnc, host_submits, tnc_submits, host_collects, tnc_collects, opens, steps, times, with_readers}
 use Rattle.law.specs.Law.{delivered}
 use Rattle.law.proofs.Steps.{host_heard, tnc_heard, at}
 use Rattle.law.proofs.Stores.{joined_view, collect_same}

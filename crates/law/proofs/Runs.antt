@@ -1,10 +1,9 @@
 -- Every run keeps the invariant, byte by byte: each call is one of the rules, or changes no more than a reader.
-use Rattle.std.proofs.Common.{◌≡◌, ℕ, ◌<◌, ◌≤◌, Bool, true, false, cond, ltb, List, length, Some, None, Option, sym, refl, ap, ◌∙◌, subst}
+use Rattle.std.proofs.Common.{◌≡◌, ℕ, ◌≤◌, Bool, true, false, cond, ltb, List, Some, None, Option, sym, refl, ap, ◌∙◌, subst}
 use Rattle.poll.specs.Channel.{last_channel}
 use Rattle.wire.specs.Wire.{longest_wire}
-use Rattle.reader.specs.Read as reader
-use Rattle.ends.specs.Frames.{Request, Answer, request_body, answer_body, request_read, answer_read}
-use Rattle.law.specs.Runs.{World, Limits, Call, host_open, host_step, host_timer, host_hear, host_submit, host_submit_again, host_collect, tnc_hear, tnc_submit, tnc_collect, request_at, answer_at, host_passes, tnc_passes, host_hears, tnc_hears, with_readers, in_buffer, opens, steps, times, Allowed, act, Run, start, after}
+use Rattle.ends.specs.Frames.{Request, Answer, request_read, answer_read}
+use Rattle.law.specs.Runs.{World, Limits, Call, host_open, host_step, host_timer, host_hear, host_submit, host_submit_again, host_collect, tnc_hear, tnc_submit, tnc_collect, host_passes, tnc_passes, host_hears, tnc_hears, in_buffer, opens, steps, times, Allowed, act, Run, start, after}
 use Rattle.law.specs.Law.{Delivery}
 use Rattle.law.proofs.Steps.{host_heard, tnc_heard}
 use Rattle.law.proofs.Keeps.{Inv, begins, with_readers_keeps, keeps_open, keeps_step, keeps_timer, keeps_host_hear, keeps_tnc_hear, keeps_host_submit, keeps_tnc_submit, keeps_host_collect, keeps_tnc_collect}

@@ -1,16 +1,15 @@
 -- One channel of a store after each call on it: what the runs' histories are compared with.
-use Rattle.std.proofs.Common.{◌≡◌, ℕ, ◌≤◌, Bool, true, false, cond, ◌&&◌, eqb, ltb, List, [], ◌∷◌, ◌++◌, drop, Ok, Err, Result, sym, refl, ap, ◌∙◌, inl, inr, arith}
-use Rattle.std.proofs.lemmas.List.{append-nil, append_assoc}
+use Rattle.std.proofs.Common.{◌≡◌, ℕ, ◌≤◌, Bool, true, false, cond, ◌&&◌, eqb, ltb, List, [], ◌∷◌, ◌++◌, drop, Ok, Err, Result, sym, refl, ap, ◌∙◌, arith}
+use Rattle.std.proofs.lemmas.List.{append_assoc}
 use Rattle.std.proofs.lemmas.Bool.{eqb-true, eqb-false, cond-true, le-ltb, lt-ltb, ltb-false, cases_lt}
 use Rattle.poll.specs.Channel.{last_channel}
 use Rattle.frame.specs.Frame.{longest_block}
 use Rattle.store.specs.declared.refusal.Refusal.{Refusal}
 use Rattle.store.specs.declared.refusal.Refusal.TheVariants.{BadChannel, NoneWaiting, ShortBuffer}
-use Rattle.store.specs.Meaning.{Block, Meaning, replaced}
+use Rattle.store.specs.Meaning.{Block, Meaning}
 use Rattle.store.specs.Rules as rules
 use Rattle.store.specs.Rules.{if_granted, joined, first_answer, copy_source, drop_after, shortened}
 use Rattle.store.specs.Calls.{shown_by}
-use Rattle.store.proofs.Totals.{replaced_same}
 use Rattle.store.proofs.Ways.{drop_goes}
 use Rattle.ends.specs.Blocks.{granted, changed, collect_store}
 

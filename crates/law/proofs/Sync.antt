@@ -1,12 +1,12 @@
 -- The transmissions and the two lines: what each call does to the hidden numbers.
-use Rattle.std.proofs.Common.{◌≡◌, ℕ, zero, suc, pred, ◌+◌, ◌-◌, ◌<◌, ◌≤◌, Bool, true, false, cond, not, ◌⊎◌, List, [], ◌∷◌, ◌++◌, length, get_or, drop, sym, refl, ap, ◌∙◌, subst, inl, inr, ⊎_elim, arith, length-append}
+use Rattle.std.proofs.Common.{◌≡◌, ℕ, suc, ◌<◌, ◌≤◌, Bool, true, false, not, ◌⊎◌, List, [], ◌∷◌, ◌++◌, length, get_or, drop, sym, refl, ap, ◌∙◌, inl, inr, ⊎_elim, arith, length-append}
 use mathlib.Core.Bool.{beq}
 use native.Mathlib.Decide.{ℕ_discrete}
 use Rattle.ends.specs.Frames.{Request, Answer, empty, cargo_in}
 use Rattle.ends.specs.Host.{State, fresh, opening, idle, on_its_way, down, reset_request}
 use Rattle.ends.specs.Tnc.{no_answer}
 use Rattle.law.specs.Runs.{no_request}
-use Rattle.law.proofs.Line.{Line, none, item, Passed, pass, write, turn, lower, line-le}
+use Rattle.law.proofs.Line.{Line, none, pass, write, turn, lower, line-le}
 
 pub never : ◌≡◌ {A = Bool} false true → ⊥
 never e = let z : ◌≡◌ {A = ℕ} 0 1 = cc in omega arith

@@ -1,10 +1,10 @@
 -- Blocks from the TNC to the host, on channel c: what each call does to what is gone and what came.
-use Rattle.std.proofs.Common.{◌≡◌, ℕ, zero, suc, pred, ◌+◌, ◌-◌, ◌<◌, ◌≤◌, Bool, true, false, cond, not, ◌&&◌, eqb, ◌⊎◌, List, [], ◌∷◌, ◌++◌, length, sym, refl, ap, ◌∙◌, subst, inl, inr, ⊎_elim, append_assoc, append-nil, arith, eqb-true}
+use Rattle.std.proofs.Common.{◌≡◌, ℕ, suc, ◌<◌, ◌≤◌, Bool, true, false, cond, eqb, ◌⊎◌, List, [], ◌∷◌, ◌++◌, sym, refl, ap, ◌∙◌, inl, inr, append_assoc, append-nil, arith, eqb-true}
 use native.Mathlib.Decide.{ℕ_discrete}
 use Rattle.frame.specs.Frame.{general}
 use Rattle.store.specs.Meaning.{Block, Meaning}
 use Rattle.ends.specs.Limits.{last_number}
-use Rattle.ends.specs.Frames.{Load, poll, information, command, Request, success, message, failure, Answer, Cargo, empty, holds, cargo_in}
+use Rattle.ends.specs.Frames.{Load, poll, information, command, Request, success, message, failure, Answer, Cargo, empty, cargo_in}
 use Rattle.ends.specs.Host.{State, fresh, opening, idle, on_its_way, down}
 use Rattle.ends.specs.Tnc.{offer, reply_to, list_for, no_channel, no_place}
 use Rattle.law.specs.Runs.{Named, confirmed, doubtful}

@@ -1,5 +1,5 @@
 -- Blocks from the host to the TNC, on channel c: what each call does to what is gone and what came.
-use Rattle.std.proofs.Common.{◌≡◌, ℕ, zero, suc, pred, ◌+◌, ◌-◌, ◌<◌, ◌≤◌, Bool, true, false, cond, not, ◌&&◌, eqb, ltb, ◌⊎◌, List, [], ◌∷◌, ◌++◌, length, sym, refl, ap, ◌∙◌, subst, inl, inr, ⊎_elim, append_assoc, append-nil, arith, eqb-true}
+use Rattle.std.proofs.Common.{◌≡◌, ℕ, zero, suc, ◌<◌, ◌≤◌, Bool, true, false, cond, eqb, List, [], ◌∷◌, ◌++◌, sym, refl, ap, ◌∙◌, subst, append_assoc, append-nil, arith, eqb-true}
 use native.Mathlib.Decide.{ℕ_discrete}
 use Rattle.poll.specs.Channel.{channels}
 use Rattle.frame.specs.Frame.{general}
@@ -9,7 +9,7 @@ use Rattle.ends.specs.Frames.{Request, Reply, success, message, failure, block, 
 use Rattle.ends.specs.Host.{State, fresh, opening, idle, on_its_way, down, Pick, poll_after_refusal, channel_poll, send_block_of, general_poll, or_else, lowest_below, pick, request_for, aboard, aboard_on}
 use Rattle.law.specs.Runs.{Named, confirmed, doubtful}
 use Rattle.law.proofs.Line.{line-le}
-use Rattle.law.proofs.Sync.{Sync, Shape, never, last_two, book', old, new}
+use Rattle.law.proofs.Sync.{Sync, Shape, never, book', old, new}
 use Rattle.law.proofs.Books.{Gone, Kept, none', block_in, sure_in, doubt_in, carried, carried_empty, Books, drop_c, count_c, name_c, books_doubt, books_confirmed, books_submit, Got, doubted, settled_by, unused}
 
 abbrev pub carries : ℕ → Request → Cargo

@@ -1,5 +1,5 @@
 -- The body of a sent block shows that block and its toggle, and no other.
-use Rattle.std.proofs.Common.{◌≡◌, ℕ, ◌-◌, Bool, true, false, List, ◌++◌, length, Some, Ok, Err, sym, refl, ap, ◌∙◌, arith}
+use Rattle.std.proofs.Common.{◌≡◌, ℕ, Bool, true, false, List, ◌++◌, length, Some, Ok, Err, sym, refl, ap, ◌∙◌, arith}
 use Rattle.frame.specs.declared.form.Form.{Form}
 use Rattle.frame.specs.declared.form.Form.TheVariants.{Counted}
 use Rattle.frame.specs.Frame.{Frame, body_of, code_byte_of}

@@ -5,7 +5,7 @@ use Rattle.std.proofs.lemmas.Bool.{cases_lt, lt-ltb, cond-true, cond-false, le-l
 use Rattle.poll.specs.Channel.{last_channel}
 use Rattle.frame.specs.Frame.{longest_block}
 use Rattle.store.specs.declared.refusal.Refusal.{Refusal}
-use Rattle.store.specs.Meaning.{Block, Meaning, plain, replaced, with_channel}
+use Rattle.store.specs.Meaning.{Block, Meaning, plain, with_channel}
 use Rattle.store.specs.Rules.{count_on, copy_source, length_of, written_over, drop_after}
 use Rattle.store.specs.Drained.{Drained, bytes_of}
 use Rattle.store.proofs.Totals.{replaced_here, replaced_same, replaced_twice}

@@ -1,5 +1,5 @@
 -- The part that is cut out is the block, and past the last number there is no byte.
-use Rattle.std.proofs.Common.{◌-◌, arith}
+use Rattle.std.proofs.Common.{arith}
 use Rattle.order.proofs.Cutting.{count_is, block_at}
 use Rattle.order.proofs.blocks.block.Goals as goal
 

@@ -1,7 +1,7 @@
 -- One byte more was heard.
 use Rattle.std.proofs.Common.{◌<◌, [], ◌∷◌, sym, ap, ◌∙◌, subst, arith}
 use mathlib.Core.Logic.{∥∥₁_map}
-use Rattle.reader.specs.Read.{Meaning, meaning, hears}
+use Rattle.reader.specs.Read.{Meaning, meaning}
 use Rattle.reader.proofs.Runs.{direction_kept}
 use Rattle.ends.specs.Line.{FromStart}
 use Rattle.ends.proofs.Line.{one_more}
