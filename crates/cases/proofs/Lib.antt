@@ -1,3 +1,3 @@
 -- The lemmas of the cases.
 pub mod Proved
-mod Stores
+mod StoreCases

@@ -36,20 +36,35 @@ impl FrameCase {
 }
 
 /// A buffer begins with the bytes that are wanted, as long as said, and is blank after them.
-pub(crate) fn check_written(rt: &impl Abort, buffer: &[u8; WIRE], len: usize, wanted: &[u8]) {
-    assert_eq!(rt; len, wanted.len());
-    assert!(rt; len <= buffer.len());
+pub(crate) fn check_written(
+    rt: &impl Abort,
+    row: usize,
+    buffer: &[u8; WIRE],
+    len: usize,
+    wanted: &[u8],
+) {
+    assert_eq!(rt; len, wanted.len(), "written, row {row}");
+    assert!(rt; len <= buffer.len(), "written, row {row}");
     for (i, b) in buffer.iter().enumerate() {
-        assert_eq!(rt; *b, wanted.get(i).copied().unwrap_or(BLANK));
+        assert_eq!(rt;
+            *b,
+            wanted.get(i).copied().unwrap_or(BLANK),
+            "written, row {row}"
+        );
     }
 }
 
 /// A frame, heard after junk, passes with its last byte and not before.
-pub(crate) fn check_passes(rt: &impl Abort, reader: &mut Reader, wire: &[u8]) -> Result<(), Fail> {
+pub(crate) fn check_passes(
+    rt: &impl Abort,
+    row: usize,
+    reader: &mut Reader,
+    wire: &[u8],
+) -> Result<(), Fail> {
     let (last, before) = wire.split_last().ok_or("no byte")?;
     for b in JUNK.iter().chain(before) {
-        assert_eq!(rt; reader.hear(*b)?, Heard::More);
+        assert_eq!(rt; reader.hear(*b)?, Heard::More, "heard, row {row}");
     }
-    assert_eq!(rt; reader.hear(*last)?, Heard::Frame);
+    assert_eq!(rt; reader.hear(*last)?, Heard::Frame, "heard, row {row}");
     Ok(())
 }

@@ -1,8 +1,7 @@
 // Bytes as a text of hex digits, two to a byte.
 ghost use Rattle.std.specs.Prelude.{◌<◌, IfSome};
 
-use std::alloc::Global;
-use std::fmt;
+use std::alloc::{AllocError, Global};
 use std::test::Fail;
 
 /// The bytes of a text.
@@ -15,7 +14,7 @@ pub(crate) fn bytes(heap: Global, text: &str) -> Result<Vec<u8>, Fail> {
 }
 
 /// Adds bytes to a text.
-pub(crate) fn show(text: &mut String, bytes: &[u8]) -> fmt::Result {
+pub(crate) fn show(text: &mut String, bytes: &[u8]) -> Result<(), AllocError> {
     for b in bytes {
         write!(text, "{b:02X}")?;
     }

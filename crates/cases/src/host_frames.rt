@@ -28,36 +28,36 @@ fn code_and_payload(frame: HostFrame<'_>) -> (u8, &[u8]) {
     }
 }
 
-fn check_writes(rt: &impl Abort, heap: Global, case: &FrameCase) -> Result<(), Fail> {
+fn check_writes(rt: &impl Abort, heap: Global, row: usize, case: &FrameCase) -> Result<(), Fail> {
     let payload = bytes(heap, case.payload)?;
     let wanted = bytes(heap, case.wire)?;
     let head = case.head()?;
     let frame = host_frame(case.code, payload.as_slice()).ok_or("no host code")?;
     let mut buffer = [BLANK; WIRE];
     let len = write_host(head, frame, &mut buffer)?;
-    check_written(rt, &buffer, len, wanted.as_slice());
+    check_written(rt, row, &buffer, len, wanted.as_slice());
     Ok(())
 }
 
-fn check_hears(rt: &impl Abort, heap: Global, case: &FrameCase) -> Result<(), Fail> {
+fn check_hears(rt: &impl Abort, heap: Global, row: usize, case: &FrameCase) -> Result<(), Fail> {
     let payload = bytes(heap, case.payload)?;
     let wire = bytes(heap, case.wire)?;
     let mut reader = Reader::new(Direction::FromHost);
-    check_passes(rt, &mut reader, wire.as_slice())?;
+    check_passes(rt, row, &mut reader, wire.as_slice())?;
     let body = reader.body().ok_or("no body")?;
-    assert_eq!(rt; Head::of(body), Some(case.head()?));
+    assert_eq!(rt; Head::of(body), Some(case.head()?), "heard, row {row}");
     let frame = HostFrame::of(body).ok_or("no host frame")?;
     let (code, carried) = code_and_payload(frame);
-    assert_eq!(rt; code, case.code);
-    assert_eq!(rt; carried, payload.as_slice());
+    assert_eq!(rt; code, case.code, "heard, row {row}");
+    assert_eq!(rt; carried, payload.as_slice(), "heard, row {row}");
     Ok(())
 }
 
 #[test]
 fn written_and_heard(rt: HostRuntime) -> Result<(), Fail> {
-    for (i, case) in table::FRAMES.iter().enumerate() {
-        check_writes(&rt, rt.alloc(), case).note(format_args!("written, row {i}"))?;
-        check_hears(&rt, rt.alloc(), case).note(format_args!("heard, row {i}"))?;
+    for (row, case) in table::FRAMES.iter().enumerate() {
+        check_writes(&rt, rt.alloc(), row, case)?;
+        check_hears(&rt, rt.alloc(), row, case)?;
     }
     Ok(())
 }

@@ -3,7 +3,7 @@
 
 ghost use Rattle.std.specs.Prelude.{◌≡◌};
 ghost use Rattle.cases.specs.Proved.{ProvedCases};
-ghost use Rattle.cases.specs.Stores.{StoreCases};
+ghost use Rattle.cases.specs.StoreCases.{StoreCases};
 
 #[cfg(test)]
 mod frame_case;

@@ -112,35 +112,35 @@ static TEXTS: [TextCase; 6] = [
 ];
 
 // A list names the channels of its values, first to last, and no more: each value less 1.
-fn check_left(rt: &impl Abort, mut list: PollList, values: &[u8]) -> Result<(), Fail> {
+fn check_left(rt: &impl Abort, row: usize, mut list: PollList, values: &[u8]) -> Result<(), Fail> {
     for value in values {
         let Some(channel) = list.first() else {
             return Err(Fail::new("too short"));
         };
-        assert_eq!(rt; channel.number() + 1, *value);
+        assert_eq!(rt; channel.number() + 1, *value, "row {row}");
         list.drop_first();
     }
-    assert_eq!(rt; list.first(), None);
+    assert_eq!(rt; list.first(), None, "row {row}");
     Ok(())
 }
 
-fn check_read(rt: &impl Abort, heap: Global, case: &ListCase) -> Result<(), Fail> {
+fn check_read(rt: &impl Abort, heap: Global, row: usize, case: &ListCase) -> Result<(), Fail> {
     let values = bytes(heap, case.values)?;
     match PollList::read(values.as_slice()) {
-        Some(list) if case.good => check_left(rt, list, values.as_slice()),
+        Some(list) if case.good => check_left(rt, row, list, values.as_slice()),
         Some(_) => Err(Fail::new("a bad list is read")),
         None => {
-            assert!(rt; !case.good);
+            assert!(rt; !case.good, "row {row}");
             Ok(())
         },
     }
 }
 
-fn check_listed(rt: &impl Abort, heap: Global, case: &TextCase) -> Result<(), Fail> {
+fn check_listed(rt: &impl Abort, heap: Global, row: usize, case: &TextCase) -> Result<(), Fail> {
     let channels = bytes(heap, case.waiting)?;
     let values = bytes(heap, case.values)?;
     let text = ListText::of(&waiting(channels.as_slice()));
-    assert_eq!(rt; text.bytes(), values.as_slice());
+    assert_eq!(rt; text.bytes(), values.as_slice(), "row {row}");
     Ok(())
 }
 
@@ -157,16 +157,16 @@ fn waiting(channels: &[u8]) -> [bool; 64] {
 
 #[test]
 fn read(rt: HostRuntime) -> Result<(), Fail> {
-    for (i, case) in LISTS.iter().enumerate() {
-        check_read(&rt, rt.alloc(), case).note(format_args!("row {i}"))?;
+    for (row, case) in LISTS.iter().enumerate() {
+        check_read(&rt, rt.alloc(), row, case)?;
     }
     Ok(())
 }
 
 #[test]
 fn listed(rt: HostRuntime) -> Result<(), Fail> {
-    for (i, case) in TEXTS.iter().enumerate() {
-        check_listed(&rt, rt.alloc(), case).note(format_args!("row {i}"))?;
+    for (row, case) in TEXTS.iter().enumerate() {
+        check_listed(&rt, rt.alloc(), row, case)?;
     }
     Ok(())
 }

@@ -161,35 +161,34 @@ fn write(case: &WriteCase, code: u8, buffer: &mut [u8]) -> Result<Option<u8>, Fa
     }
 }
 
-fn check_blank(rt: &impl Abort, buffer: &[u8]) -> Result<(), Fail> {
+fn check_blank(rt: &impl Abort, row: usize, code: u8, buffer: &[u8]) {
     for b in buffer {
-        assert_eq!(rt; *b, BLANK);
+        assert_eq!(rt; *b, BLANK, "row {row}, code {code}");
+    }
+}
+
+fn check_write(rt: &impl Abort, row: usize, case: &WriteCase, code: u8) -> Result<(), Fail> {
+    let mut whole = [BLANK; WIRE];
+    let buffer = whole.get_mut(0..case.room).ok_or("no such room")?;
+    let refusal = write(case, code, buffer)?;
+    assert_eq!(rt; refusal, case.refusal, "row {row}, code {code}");
+    if refusal.is_some() {
+        check_blank(rt, row, code, &whole);
     }
     Ok(())
 }
 
-fn check_write(rt: &impl Abort, case: &WriteCase, code: u8) -> Result<(), Fail> {
-    let mut whole = [BLANK; WIRE];
-    let buffer = whole.get_mut(0..case.room).ok_or("no such room")?;
-    let refusal = write(case, code, buffer)?;
-    assert_eq!(rt; refusal, case.refusal);
-    match refusal {
-        Some(_) => check_blank(rt, &whole),
-        None => Ok(()),
-    }
-}
-
-fn check_writes(rt: &impl Abort, case: &WriteCase) -> Result<(), Fail> {
+fn check_writes(rt: &impl Abort, row: usize, case: &WriteCase) -> Result<(), Fail> {
     for code in case.codes {
-        check_write(rt, case, *code).note(format_args!("code {code}"))?;
+        check_write(rt, row, case, *code)?;
     }
     Ok(())
 }
 
 #[test]
 fn refused_and_left(rt: HostRuntime) -> Result<(), Fail> {
-    for (i, case) in WRITES.iter().enumerate() {
-        check_writes(&rt, case).note(format_args!("row {i}"))?;
+    for (row, case) in WRITES.iter().enumerate() {
+        check_writes(&rt, row, case)?;
     }
     Ok(())
 }

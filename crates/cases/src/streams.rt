@@ -4,8 +4,7 @@ use frame::form::Direction;
 use reader::fault::Fault;
 use reader::reader::Reader;
 use reader::state::Heard;
-use std::alloc::Global;
-use std::fmt;
+use std::alloc::{AllocError, Global};
 use std::process::Abort;
 use std::test::Fail;
 use table::StreamCase;
@@ -18,7 +17,7 @@ fn tell(
     place: u16,
     heard: Result<Heard, Fault>,
     body: Option<&[u8]>,
-) -> fmt::Result {
+) -> Result<(), AllocError> {
     match (heard, body) {
         (Ok(Heard::More), None) => Ok(()),
         (Ok(Heard::Frame), Some(body)) => {
@@ -37,7 +36,7 @@ fn tell(
     }
 }
 
-fn separate(events: &mut String) -> fmt::Result {
+fn separate(events: &mut String) -> Result<(), AllocError> {
     if events.is_empty() {
         Ok(())
     } else {
@@ -57,17 +56,17 @@ fn events_of(heap: Global, direction: Direction, stream: &[u8]) -> Result<String
     Ok(events)
 }
 
-fn check_stream(rt: &impl Abort, heap: Global, case: &StreamCase) -> Result<(), Fail> {
+fn check_stream(rt: &impl Abort, heap: Global, row: usize, case: &StreamCase) -> Result<(), Fail> {
     let stream = hex::bytes(heap, case.stream)?;
     let events = events_of(heap, case.direction, stream.as_slice())?;
-    assert_eq!(rt; events.as_str(), case.events);
+    assert_eq!(rt; events.as_str(), case.events, "row {row}");
     Ok(())
 }
 
 #[test]
 fn told(rt: HostRuntime) -> Result<(), Fail> {
-    for (i, case) in table::STREAMS.iter().enumerate() {
-        check_stream(&rt, rt.alloc(), case).note(format_args!("row {i}"))?;
+    for (row, case) in table::STREAMS.iter().enumerate() {
+        check_stream(&rt, rt.alloc(), row, case)?;
     }
     Ok(())
 }

@@ -48,5 +48,5 @@ fn records(rt: HostRuntime) {
     assert_eq!(rt; refused(strip.put(5, &[9])), 0);
     assert_eq!(rt; refused(strip.put(5, &[8])), 12);
     assert_eq!(rt; refused(strip.drop_first(63)), 0);
-    assert!(rt; &area[0..9] == [5, 0, 9, 2, 3, 5, 0, 9, 0x55]);
+    assert!(rt; area[0..9] == [5, 0, 9, 2, 3, 5, 0, 9, 0x55]);
 }

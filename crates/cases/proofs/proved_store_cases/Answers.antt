@@ -1,6 +1,6 @@
 -- The cases stand in the lemma file.
 use Rattle.std.proofs.Common.{refl}
-use Rattle.cases.proofs.Stores.{store_cases_hold}
+use Rattle.cases.proofs.StoreCases.{store_cases_hold}
 use Rattle.cases.proofs.proved_store_cases.Goals as goal
 
 pub returns : goal.returns

@@ -6,7 +6,7 @@ use Rattle.store.specs.Meaning.{Block, Meaning}
 use Rattle.store.specs.Rules.{if_granted, put_answer, put_after, joined}
 use Rattle.store.proofs.Ways.{put_goes}
 use Rattle.strip.specs.Records.{limit_of}
-use Rattle.cases.specs.Stores.{StoreCases}
+use Rattle.cases.specs.StoreCases.{StoreCases}
 
 too_long : (m : Meaning) (c : ℕ) (b : Block) → c ≤ 63 → length b.bytes ≡ 257 → (put_answer m c b ≡ Err BadLength) × (put_after m c b ≡ m)
 too_long m c b low long =
