@@ -1,6 +1,6 @@
 -- Every frame that a run has written can be sent; so its body is read as that frame.
 use Rattle.std.proofs.Common.{◌≡◌, ℕ, zero, suc, ◌<◌, ◌≤◌, Bool, true, false, cond, ◌||◌, eqb, ltb, List, [], ◌∷◌, ◌++◌, length, drop, Some, None, Ok, Err, Option, Result, sym, refl, ap, ◌∙◌, subst, inl, inr, arith}
-use Rattle.std.specs.List.{AllByRecursion as All}
+use Rattle.std.specs.List.{AllByRecursion}
 use Rattle.std.proofs.ByRecursion.{All-get_or, All-push, All-drop}
 use Rattle.std.proofs.lemmas.Bool.{false≢true, ltb-false, eqb-true, eqb-false, or_parts, cond_both}
 use Rattle.poll.specs.Channel.{last_channel, channels}
@@ -22,7 +22,7 @@ use Rattle.ends.proofs.Fit.{FitBlock, FitLoad, FitReply, FitRequest, FitAnswer, 
 
 -- a store of blocks that can be sent on their channels
 abbrev pub Stock : Meaning → Type 0
-Stock m = (c : ℕ) → All (FitBlock c) (m.waiting c)
+Stock m = (c : ℕ) → AllByRecursion (FitBlock c) (m.waiting c)
 
 abbrev pub Low : ℕ → Type 0
 Low c = c ≤ last_channel
@@ -42,17 +42,17 @@ Wrote P (one f) = P f
 pub record Fits (w : World) : Type 0 where
   pub host_out : Stock w.host_out
   pub tnc_out : Stock w.tnc_out
-  pub poll_list : All Low w.host.poll_list
+  pub poll_list : AllByRecursion Low w.host.poll_list
   pub sent : FitState w.host.state
   pub held : FitAnswer w.tnc.held
-  pub up : All FitRequest w.up
-  pub dn : All FitAnswer w.dn
+  pub up : AllByRecursion FitRequest w.up
+  pub dn : AllByRecursion FitAnswer w.dn
 
 -- STORES
 
-stock_with : (m : Meaning) (c : ℕ) (bs : List Block) → Stock m → All (FitBlock c) bs → Stock (with_channel m c bs)
+stock_with : (m : Meaning) (c : ℕ) (bs : List Block) → Stock m → AllByRecursion (FitBlock c) bs → Stock (with_channel m c bs)
 stock_with m c bs s a k =
-    cond_both (eqb k c) bs (m.waiting k) (All (FitBlock k)) (λ e. subst (λ (n : ℕ). All (FitBlock n) bs) (sym (eqb-true k c e)) a) (λ e. s k)
+    cond_both (eqb k c) bs (m.waiting k) (AllByRecursion (FitBlock k)) (λ e. subst (λ (n : ℕ). AllByRecursion (FitBlock n) bs) (sym (eqb-true k c e)) a) (λ e. s k)
 
 stock_granted : {X E : Type 0} (r : Result X E) (m n : Meaning) → (granted r ≡ true → Stock m) → Stock n → Stock (if_granted r m n)
 stock_granted (Ok x) m n f s = f refl
@@ -90,11 +90,11 @@ stock_submit submitted m c b s =
 
 -- THE HOST
 
-list_low : (t : List ℕ) → is_good t ≡ true → All Low (listed_channels t)
+list_low : (t : List ℕ) → is_good t ≡ true → AllByRecursion Low (listed_channels t)
 list_low [] e = tt
 list_low (v ∷ t) e = let g = goods v t e in (omega arith, list_low t g.rest)
 
-list_in_low : (c : ℕ) (r : Reply) → FitReply c r → All Low (list_in r)
+list_in_low : (c : ℕ) (r : Reply) → FitReply c r → AllByRecursion Low (list_in r)
 list_in_low c success f = tt
 list_in_low c (message t) f = list_low t f
 list_in_low c (failure t) f = tt
@@ -103,7 +103,7 @@ list_in_low c (other code p) f = tt
 
 record FitHost (s : HostStep) : Type 0 where
   out : Stock s.out
-  poll_list : All Low s.host.poll_list
+  poll_list : AllByRecursion Low s.host.poll_list
   sent : FitState s.host.state
   wrote : Wrote FitRequest s.wrote
 
@@ -114,7 +114,7 @@ FitPick (channel_poll c) = Low c
 FitPick (send_block_of c b) = FitBlock c b
 FitPick general_poll = Unit {0}
 
-fit_else : (p : Pick) (bs : List Block) (c : ℕ) → FitPick p → All (FitBlock c) bs → FitPick (or_else p bs c)
+fit_else : (p : Pick) (bs : List Block) (c : ℕ) → FitPick p → AllByRecursion (FitBlock c) bs → FitPick (or_else p bs c)
 fit_else poll_after_refusal bs c f a = tt
 fit_else (channel_poll k) bs c f a = f
 fit_else (send_block_of k b) bs c f a = f
@@ -126,7 +126,7 @@ unfolding lowest_below
 fit_lowest zero m s = tt
 fit_lowest (suc n) m s = fit_else (lowest_below n m.waiting) (m.waiting n) n (fit_lowest n m s) (s n)
 
-fit_pick : (refused : Bool) (l : List ℕ) (m : Meaning) → All Low l → Stock m → FitPick (pick refused l m.waiting)
+fit_pick : (refused : Bool) (l : List ℕ) (m : Meaning) → AllByRecursion Low l → Stock m → FitPick (pick refused l m.waiting)
 fit_pick true l m a s = tt
 fit_pick false [] m a s = fit_lowest channels m s
 fit_pick false (c ∷ l) m a s = a.0
@@ -137,7 +137,7 @@ fit_request t (channel_poll c) f = record { place = inl f; shape = tt }
 fit_request t (send_block_of c b) f = record { place = inl f.0; shape = f }
 fit_request t general_poll f = record { place = inr refl; shape = tt }
 
-list_after_low : (refused : Bool) (l : List ℕ) → All Low l → All Low (list_after refused l)
+list_after_low : (refused : Bool) (l : List ℕ) → AllByRecursion Low l → AllByRecursion Low (list_after refused l)
 list_after_low true l a = a
 list_after_low false [] a = tt
 list_after_low false (c ∷ l) a = a.1
@@ -203,11 +203,11 @@ record FitTnc (s : TncStep) : Type 0 where
   held : FitAnswer s.tnc.held
   wrote : Wrote FitAnswer s.wrote
 
-fit_offer : (c : ℕ) (bs : List Block) → All (FitBlock c) bs → FitReply c (offer bs)
+fit_offer : (c : ℕ) (bs : List Block) → AllByRecursion (FitBlock c) bs → FitReply c (offer bs)
 fit_offer c [] a = tt
 fit_offer c (b ∷ bs) a = a.0
 
-fit_text : (t : List ℕ) → length t ≤ longest_text → All (λ x. 1 ≤ x) t → Carries Text t
+fit_text : (t : List ℕ) → length t ≤ longest_text → AllByRecursion (λ x. 1 ≤ x) t → Carries Text t
 fit_text t h a = (h, λ k l e. omega (arith, All-get_or (λ x. 1 ≤ x) t k 0 l a))
 
 fit_reply : (l : Load) (c : ℕ) (place : Bool) (out : Meaning) → FitLoad c l → Stock out → FitReply c (reply_to l c place out)
@@ -237,7 +237,7 @@ module _ (w : World) (f : Fits w) where
 
 -- RUNS
 
-all_written : {A : Type 0} (P : A → Type 0) (l : List A) (x : Written A) → All P l → Wrote P x → All P (with_written l x)
+all_written : {A : Type 0} (P : A → Type 0) (l : List A) (x : Written A) → AllByRecursion P l → Wrote P x → AllByRecursion P (with_written l x)
 all_written P l nothing a p = a
 all_written P l (one f) a p = All-push P l f a p
 

@@ -1,7 +1,7 @@
 -- Laws of the shelf's places.
 use Rattle.std.proofs.Common.{◌≡◌, ℕ, suc, ◌+◌, ◌-◌, ◌<◌, ◌≤◌, List, [], ◌∷◌, ◌++◌, map, length, get_or, take, drop, set, sym, ap, ◌∙◌, add-one, arith, rules}
 use lib.Seq.{paste}
-use Rattle.std.specs.List.{AllByRecursion as All, remove}
+use Rattle.std.specs.List.{AllByRecursion, remove}
 use Rattle.std.proofs.lemmas.List.{take-take, take-map, drop-map, length-map, length-take-le, length-drop, map-append, take_more_set, map_push, get_or-map, get_or-take}
 use Rattle.std.proofs.lemmas.List.Edits.{take-paste}
 use Rattle.std.proofs.lemmas.Slice.{between_is}
@@ -31,11 +31,11 @@ length_block p = length-take-le p.len p.bytes (search rules)
 storable_one : (p : Place) → Storable (entry p)
 storable_one p = let l = length_block p in record { channel_low = p.low; some = search rules; short = search rules }
 
-storable_each : (ps : List Place) → All (λ p. Storable (entry p)) ps
+storable_each : (ps : List Place) → AllByRecursion (λ p. Storable (entry p)) ps
 storable_each [] = tt
 storable_each (p ∷ ps) = (storable_one p, storable_each ps)
 
-pub storable : (s : Shelf) → All Storable (entries s)
+pub storable : (s : Shelf) → AllByRecursion Storable (entries s)
 storable s = All-map Storable entry (take s.used s.places) (storable_each (take s.used s.places))
 
 -- one place more is used

@@ -4,7 +4,7 @@ use Rattle.std.proofs.Common.{◌≡◌, ℕ, ◌<◌, ◌≤◌, Bool, true, fa
 use mathlib.Core.Path.{fun_ext}
 use Rattle.std.proofs.lemmas.Bool.{eq-eqb, ne_eqb, eqb-true, cond-true, cond-false, le-ltb, cases_eq}
 use Rattle.std.proofs.lemmas.List.{append-nil}
-use Rattle.std.specs.List.{AllByRecursion as All, remove}
+use Rattle.std.specs.List.{AllByRecursion, remove}
 use Rattle.store.specs.declared.refusal.Refusal.TheVariants.{NoneWaiting, Full}
 use Rattle.poll.specs.Channel.{last_channel, channels}
 use Rattle.frame.specs.Frame.{longest_block}
@@ -84,7 +84,7 @@ pub view_without : (xs : List Entry) (c : ℕ) → view (without c xs) ≡ repla
 view_without xs c = fun_ext (λ k. without_at k c xs)
 
 -- all that wait, counted by channel, are all that arrived
-pub total_arrived : (xs : List Entry) (n : ℕ) → All Storable xs → total (arrived xs n) ≡ length xs
+pub total_arrived : (xs : List Entry) (n : ℕ) → AllByRecursion Storable xs → total (arrived xs n) ≡ length xs
 total_arrived [] n f = below_none (channels)
 total_arrived (x ∷ xs) n f =
     let h = below_replaced (channels) (view xs) x.channel (x.block ∷ on x.channel xs) (let l = f.0.channel_low in omega arith) in
@@ -95,7 +95,7 @@ total_arrived (x ∷ xs) n f =
 -- put
 pub put_between :
     (ls rs ys : List Entry) (n c : ℕ) (b : Block)
-    → All Storable (ls ++ rs)
+    → AllByRecursion Storable (ls ++ rs)
     → c ≤ last_channel
     → (length b.bytes ≡ 0 → ⊥)
     → length b.bytes ≤ longest_block
@@ -110,7 +110,7 @@ put_between ls rs ys n c b storable low some short room z e =
 
 pub put_granted :
     (xs ys : List Entry) (n c : ℕ) (b : Block)
-    → All Storable xs
+    → AllByRecursion Storable xs
     → c ≤ last_channel
     → (length b.bytes ≡ 0 → ⊥)
     → length b.bytes ≤ longest_block
@@ -122,7 +122,7 @@ put_granted xs ys n c b storable low some short room e =
 
 pub put_full :
     (xs : List Entry) (n c : ℕ) (b : Block)
-    → All Storable xs
+    → AllByRecursion Storable xs
     → c ≤ last_channel
     → (length b.bytes ≡ 0 → ⊥)
     → length b.bytes ≤ longest_block

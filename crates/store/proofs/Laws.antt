@@ -1,7 +1,7 @@
 -- The laws of every list of calls: each call moves blocks from the front of what waits to the end of what was dropped,
 -- or from a granted put to the end of what waits; and it touches no channel but its own.
 use Rattle.std.proofs.Common.{◌≡◌, ℕ, ◌≤◌, Bool, true, false, cond, ◌||◌, eqb, ltb, List, [], ◌∷◌, ◌++◌, length, drop, Ok, Err, Result, sym, refl, ap, ◌∙◌, arith}
-use Rattle.std.specs.List.{AllByRecursion as All}
+use Rattle.std.specs.List.{AllByRecursion}
 use Rattle.std.proofs.lemmas.Bool.{ltb-false, eqb-false, eqb-true}
 use Rattle.std.proofs.lemmas.List.{append_assoc, append-nil}
 use Rattle.poll.specs.Channel.{last_channel, channels}
@@ -139,7 +139,7 @@ apart_one c (ask_count k) m u = refl
 apart_one c ask_total m u = refl
 apart_one c ask_limit m u = refl
 
-apart : (c : ℕ) (h : History) (ks : List Call) → All (Elsewhere c) ks → (after ks h).store.waiting c ≡ h.store.waiting c
+apart : (c : ℕ) (h : History) (ks : List Call) → AllByRecursion (Elsewhere c) ks → (after ks h).store.waiting c ≡ h.store.waiting c
 apart c h [] u = refl
 apart c h (k ∷ ks) u = apart c (act k h) ks u.1 ∙ apart_one c k h.store u.0
 

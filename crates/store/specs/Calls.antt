@@ -1,6 +1,6 @@
 -- Lists of calls on a store, and the laws of all of them.
 use Rattle.std.specs.Prelude.{◌≡◌, ℕ, ◌≤◌, List, [], ◌∷◌, ◌++◌, Ok, Err, Result}
-use Rattle.std.specs.List.{AllByRecursion as All}
+use Rattle.std.specs.List.{AllByRecursion}
 use Rattle.store.specs.declared.refusal.Refusal.{Refusal}
 use Rattle.store.specs.Meaning.{Block, Meaning, none, empty, replaced, total}
 use Rattle.store.specs.Rules.{if_granted, put_answer, put_after, first_waiting, drop_after}
@@ -84,4 +84,4 @@ Elsewhere c ask_limit = Unit {0}
 -- the laws: of every list of calls on an empty store, and of calls on one channel and the blocks of another
 pub record StoreLaws : Type 0 where
   pub keeps : (limit : ℕ) (ks : List Call) → Kept limit (after ks (begun (empty limit)))
-  pub apart : (c : ℕ) (m : Meaning) (ks : List Call) → All (Elsewhere c) ks → (after ks (begun m)).store.waiting c ≡ m.waiting c
+  pub apart : (c : ℕ) (m : Meaning) (ks : List Call) → AllByRecursion (Elsewhere c) ks → (after ks (begun m)).store.waiting c ≡ m.waiting c

@@ -1,6 +1,6 @@
 -- What a strip's own facts give of its records.
 use Rattle.std.proofs.Common.{◌≡◌, ℕ, ◌+◌, ◌<◌, ◌≤◌, length, take, drop, arith}
-use Rattle.std.specs.List.{AllByRecursion as All}
+use Rattle.std.specs.List.{AllByRecursion}
 use Rattle.store.specs.Arrival.{Storable}
 use Rattle.strip.specs.declared.Strip.{Strip}
 use Rattle.strip.specs.Records.{record_size, limit_of, laid, laid_over}
@@ -10,7 +10,7 @@ use Rattle.strip.proofs.Records.{reads, length_parsed, Reads, roomy, storable_al
 pub held_is : (s : Strip) → length (records s) ≡ s.held
 held_is s = length_parsed s.held (area_of s)
 
-pub storable_records : (s : Strip) → All Storable (records s)
+pub storable_records : (s : Strip) → AllByRecursion Storable (records s)
 storable_records s = storable_all (records s) s.storable
 
 pub as_it_was : (s : Strip) → area_of s ≡ laid_over (records s) (area_of s)

@@ -1,7 +1,7 @@
 -- Laws of records that lie back to back.
 use Rattle.std.proofs.Common.{◌≡◌, ℕ, zero, suc, ◌+◌, ◌-◌, ◌*◌, ◌<◌, ◌≤◌, true, List, [], ◌∷◌, ◌++◌, length, get_or, take, drop, set, sym, refl, ap, ◌∙◌, add-one, arith}
 use lib.Seq.{paste}
-use Rattle.std.specs.List.{AllByRecursion as All, remove}
+use Rattle.std.specs.List.{AllByRecursion, remove}
 use Rattle.std.proofs.lemmas.List.{append_assoc, append-nil, take_at, drop_at, length-append, drop_more, take-append-drop, get_or_at, get_or-append-add, length-take-le, drop-drop, take_more}
 use Rattle.std.proofs.lemmas.List.Edits.{sets-eq, length-remove}
 use borrow.Rule.Slice.PartMut.{put_mid}
@@ -21,7 +21,7 @@ storable_parts x e =
 pub storable_from : (x : Entry) → x.channel ≤ last_channel → 1 ≤ length x.block.bytes → length x.block.bytes ≤ longest_block → storable_test x ≡ true
 storable_from x a b c = and_from _ _ (le-leb _ _ a) (and_from _ _ (le-leb _ _ b) (le-leb _ _ c))
 
-pub storable_all : (xs : List Entry) → all_storable xs ≡ true → All Storable xs
+pub storable_all : (xs : List Entry) → all_storable xs ≡ true → AllByRecursion Storable xs
 storable_all [] e = tt
 storable_all (x ∷ xs) e =
     let p = and_parts _ _ e in
