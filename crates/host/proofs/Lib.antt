@@ -4,3 +4,4 @@ mod Picks
 mod Lists
 mod InSequence
 mod Confirming
+mod Timing

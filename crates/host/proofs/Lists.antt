@@ -1,5 +1,5 @@
 -- A poll list as it is read is the list that the rules take.
-use Rattle.std.proofs.Common.{◌≡◌, ℕ, pred, ◌+◌, Bool, true, false, cond, not, ◌&&◌, eqb, List, [], ◌∷◌, map, sym, refl, ap, ◌∙◌, subst, arith, Bor}
+use Rattle.std.proofs.Common.{◌≡◌, ℕ, pred, ◌+◌, Bool, true, false, not, ◌&&◌, eqb, List, [], ◌∷◌, map, sym, refl, ap, ◌∙◌, subst, arith, Bor}
 use mathlib.Core.Bool.{beq}
 use Rattle.std.proofs.lemmas.Bool.{true≢false, cond-true, cond-false, eq-eqb, and_from}
 use Rattle.poll.specs.List.{GoodList, polled}
@@ -13,7 +13,6 @@ use Rattle.store.specs.Meaning.{Meaning}
 use Rattle.ends.specs.Frames.{is_good, listed_channels}
 use Rattle.ends.proofs.Fit.{is_good_holds, good_is}
 use Rattle.host.specs.declared.answer.Cause.TheVariants as cause
-use Rattle.host.specs.declared.host.met.Met.{Met}
 use Rattle.host.specs.declared.host.met.Met.TheVariants as met
 use Rattle.host.specs.Sent.{poll_request}
 use Rattle.host.specs.Met.{answer_shown, OpeningMet, SequenceMet}

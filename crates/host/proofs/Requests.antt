@@ -2,7 +2,6 @@
 use Rattle.std.proofs.Common.{ℕ, ◌≤◌, Bool, length, refl, inl, inr}
 use Rattle.frame.specs.declared.head.Address.{Address}
 use Rattle.frame.specs.declared.head.Address.TheVariants.{Channel, General}
-use Rattle.poll.specs.declared.channel.Channel as channels
 use Rattle.poll.specs.Channel.{last_channel}
 use Rattle.frame.specs.Frame.{ChannelByte, longest_block}
 use Rattle.frame.specs.Head.{byte_of}

@@ -4,7 +4,6 @@ use Rattle.wire.specs.Wire.{longest_wire}
 use Rattle.store.specs.Meaning.{Meaning}
 use Rattle.ends.specs.declared.refusal.Refusal.{Refusal}
 use Rattle.ends.specs.declared.refusal.Refusal.TheVariants.{NoRoom, ShortWire, WrongState}
-use Rattle.ends.specs.Frames.{Request}
 use Rattle.ends.specs.Blocks.{Word, silent, confirms, doubts}
 use Rattle.ends.specs.Named.{name_of}
 use Rattle.ends.specs.Sent.{request_length}

@@ -1,12 +1,8 @@
 -- A confirmed block is named, leaves its store and counts as gone.
 use Rattle.std.proofs.Common.{◌≡◌, ℕ, Ok, sym, ap, ◌∙◌}
-use Rattle.store.specs.Meaning.{Meaning}
 use Rattle.store.specs.Rules.{drop_after}
 use Rattle.ends.specs.Blocks.{Word, leaves, confirms, one_more_counted}
-use Rattle.ends.specs.Counts.{gone_of}
 use Rattle.ends.specs.Host as model
-use Rattle.ends.specs.Named.{name_of}
-use Rattle.host.specs.declared.answer.Heard.TheVariants as heard
 use Rattle.host.specs.Model.{host_of}
 use Rattle.host.specs.Answers.{confirmed_by}
 use Rattle.host.proofs.Confirming.{confirm_word_is, counted}

@@ -1,7 +1,7 @@
 -- The link goes down by the rule that a frame met.
-use Rattle.std.proofs.Common.{◌≡◌, ℕ, Bool, Ok, sym, refl, ap, ◌∙◌, subst}
+use Rattle.std.proofs.Common.{◌≡◌, Bool, Ok, sym, refl, ap, ◌∙◌, subst}
 use Rattle.store.specs.Meaning.{Meaning}
-use Rattle.ends.specs.Blocks.{Word, leaves}
+use Rattle.ends.specs.Blocks.{leaves}
 use Rattle.ends.specs.Host as model
 use Rattle.host.specs.declared.answer.Cause.{Cause}
 use Rattle.host.specs.declared.answer.Cause.TheVariants as cause
@@ -10,7 +10,6 @@ use Rattle.host.specs.declared.answer.Heard.TheVariants as heard
 use Rattle.host.specs.declared.host.met.Met.{Met}
 use Rattle.host.specs.declared.host.met.Met.TheVariants as met
 use Rattle.host.specs.Cause.{cause_number}
-use Rattle.host.specs.Model.{host_of}
 use Rattle.host.specs.Answers.{fall_by, doubt_word, cause_of}
 use Rattle.host.specs.Met.{Followed}
 use Rattle.host.proofs.host.Host.follow.Goals as goal

@@ -1,8 +1,7 @@
 -- A frame in sequence meets the rule of the frame on its way.
-use Rattle.std.proofs.Common.{◌≡◌, Bool, true, false, not, sym, refl, ap, ◌∙◌}
+use Rattle.std.proofs.Common.{◌≡◌, Bool, true, false, not, sym, ap, ◌∙◌}
 use mathlib.Core.Bool.{beq}
 use Rattle.host.specs.declared.sent.Asked.{Asked}
-use Rattle.host.specs.declared.sent.Asked.TheVariants as asked
 use Rattle.frame.specs.Frame.{general}
 use Rattle.host.specs.Sent.{asked_request, block_in, block_request, poll_request}
 use Rattle.host.specs.Met.{answer_shown}
