@@ -132,7 +132,7 @@ fn check_read(rt: &impl Abort, heap: Global, row: usize, case: &ListCase) -> Res
         None => {
             assert!(rt; !case.good, "row {row}");
             Ok(())
-        },
+        }
     }
 }
 
