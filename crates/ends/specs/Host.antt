@@ -21,8 +21,8 @@ pub data State : Type 0 where
   down : State
 
 -- setting: how often a frame is repeated; generation: the toggle of the next opening's resets; last: the toggle of the last answer taken;
--- spare: how many stale frames may still come; resets: how often this generation's reset was sent; pollList: the channels left to poll;
--- blockRefused: the last answer taken refused a block; submitted and gone: counts by channel
+-- spare: how many stale frames may still come; resets: how often this generation's reset was sent; poll_list: the channels left to poll;
+-- block_refused: the last answer taken refused a block; submitted and gone: counts by channel
 pub record Host : Type 0 where
   pub setting : ℕ
   pub state : State
@@ -246,7 +246,7 @@ timer_step h out inn = by_timer (timer_rule h.setting h.state) h out inn
 
 -- HEAR: the rule that a frame meets
 
--- stale: passed over; spareUsed: stale, one spare less; noRoom: refusal 9; falls: down, with its cause
+-- stale: passed over; spare_used: stale, one spare less; no_room: refusal 9; falls: down, with its cause
 pub data HostRule : Type 0 where
   stale : HostRule
   spare_used : HostRule

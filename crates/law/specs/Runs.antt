@@ -28,8 +28,8 @@ pub record Way : Type 0 where
   pub collected : ℕ → List Block
 
 -- the two ends with their readers, the four stores by their meaning, and what has happened:
--- up, dn: all frames that the host, the TNC has written; up_at, dnAt: the place of the last that passed the other end's reader;
--- up_next, dnNext: the place after it; to_tnc, toHost: the two ways;
+-- up, dn: all frames that the host, the TNC has written; up_at, dn_at: the place of the last that passed the other end's reader;
+-- up_next, dn_next: the place after it; to_tnc, to_host: the two ways;
 -- tries: the granted timers that wrote a frame again since the granted step or open that sent it
 pub record World : Type 0 where
   pub host : Host
