@@ -5,3 +5,4 @@ mod Lists
 mod InSequence
 mod Confirming
 mod Timing
+mod Hearing

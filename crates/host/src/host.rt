@@ -10,9 +10,11 @@ use poll::list::PollList;
 
 pub mod falling;
 pub mod following;
+pub mod hearing;
 pub mod making;
 pub mod met;
 pub mod opening;
+pub mod reading;
 pub mod stepping;
 pub mod timing;
 

@@ -1,0 +1,10 @@
+-- The body of a frame has a head and a kind.
+use Rattle.std.proofs.Math.Logic.{∥∥₁_elim}
+use Rattle.frame.specs.declared.form.Direction.TheVariants.{FromTnc}
+use Rattle.host.proofs.host.reading.Answer.of.Goals as goal
+
+pub unreachable-requires : goal.unreachable-requires
+unreachable-requires c = ∥∥₁_elim c.requires (hlevel) (λ x. c.in_default.ensures.built FromTnc x.0 x.1)
+
+pub unreachable-requires-in_default-of : goal.unreachable-requires-in_default-of
+unreachable-requires-in_default-of c = ∥∥₁_elim c.requires (hlevel) (λ x. c.in_default-of.ensures.reads x.0 x.1)
