@@ -47,26 +47,26 @@ module _ (g : Bool) (h : Head) (f : TncFrame) (text : Bor (List ℕ)) (re : h.re
 
   pub passes_over : (GoodList text.now → ⊥) → OpeningMet g (answer_shown h f) met.Stale
   passes_over bad = subst (λ (x : TncFrame). OpeningMet g (answer_shown h x) met.Stale) (sym is) (record {
-    rule = sym (cond-true _ _ _ re ∙ cond-true _ _ _ to ∙ cond-false _ _ _ (no-list (eqb (byte_of h.address) general)));
+    rule = sym (cond-true _ _ _ re ∙ cond-true _ _ _ to ∙ cond-false _ _ _ (no_list (eqb (byte_of h.address) general)));
     lists = tt;
   })
     where
-      no-list : (t : Bool) → (t && is_good text.now) ≡ false
-      no-list true = not_good text.now bad
-      no-list false = refl
+      no_list : (t : Bool) → (t && is_good text.now) ≡ false
+      no_list true = not_good text.now bad
+      no_list false = refl
 
 -- the general poll's answer
 module _ (reset toggle : Bool) (inn : Meaning) (h : Head) (f : TncFrame) (text : Bor (List ℕ)) (ad : byte_of h.address ≡ general) (is : f ≡ tnc.Message text) where
-  pub takes-list : (l : PollList) → GoodList text.now → map (λ (c : ℕ). c + 1) (polled l) ≡ text.now → SequenceMet (poll_request general reset toggle) inn inn (answer_shown h f) (met.Listed l)
-  takes-list l good read = subst (λ (x : TncFrame). SequenceMet (poll_request general reset toggle) inn inn (answer_shown h x) (met.Listed l)) (sym is) (record {
+  pub takes_list : (l : PollList) → GoodList text.now → map (λ (c : ℕ). c + 1) (polled l) ≡ text.now → SequenceMet (poll_request general reset toggle) inn inn (answer_shown h f) (met.Listed l)
+  takes_list l good read = subst (λ (x : TncFrame). SequenceMet (poll_request general reset toggle) inn inn (answer_shown h x) (met.Listed l)) (sym is) (record {
     rule = sym (cond-true _ _ _ (eq-eqb _ _ ad) ∙ cond-true _ _ _ (is_good_holds text.now good));
     lists = list_is text.now l read;
     confirms = tt;
     store = refl;
   })
 
-  pub no-list : (GoodList text.now → ⊥) → SequenceMet (poll_request general reset toggle) inn inn (answer_shown h f) (met.Falls cause.WrongAnswer)
-  no-list bad = subst (λ (x : TncFrame). SequenceMet (poll_request general reset toggle) inn inn (answer_shown h x) (met.Falls cause.WrongAnswer)) (sym is) (record {
+  pub no_list : (GoodList text.now → ⊥) → SequenceMet (poll_request general reset toggle) inn inn (answer_shown h f) (met.Falls cause.WrongAnswer)
+  no_list bad = subst (λ (x : TncFrame). SequenceMet (poll_request general reset toggle) inn inn (answer_shown h x) (met.Falls cause.WrongAnswer)) (sym is) (record {
     rule = sym (cond-true _ _ _ (eq-eqb _ _ ad) ∙ cond-false _ _ _ (not_good text.now bad));
     lists = tt;
     confirms = tt;

@@ -125,13 +125,13 @@ module _ (P : List Block → ℕ → List Named → Type 0) (c c' : ℕ) (low : 
       go true e p = rw (← (eqb-true c c' e)) p
       go false e p = p
 
-  pub doubt-at : (y : Cargo) → At doubtful y → P ((leaves (doubt_of c' (one_more_counted (g c')) y) q).waiting c) (counts (doubt_of c' (one_more_counted (g c')) y) g c) (names (doubt_of c' (one_more_counted (g c')) y) x c)
-  doubt-at empty h = at_none doubtful h
-  doubt-at (holds y) h = at_block doubtful y h
+  pub doubt_at : (y : Cargo) → At doubtful y → P ((leaves (doubt_of c' (one_more_counted (g c')) y) q).waiting c) (counts (doubt_of c' (one_more_counted (g c')) y) g c) (names (doubt_of c' (one_more_counted (g c')) y) x c)
+  doubt_at empty h = at_none doubtful h
+  doubt_at (holds y) h = at_block doubtful y h
 
-  pub confirm-at : (y : Cargo) → At confirmed y → P ((leaves (confirm_of c' (one_more_counted (g c')) y) q).waiting c) (counts (confirm_of c' (one_more_counted (g c')) y) g c) (names (confirm_of c' (one_more_counted (g c')) y) x c)
-  confirm-at empty h = at_none confirmed h
-  confirm-at (holds y) h = at_block confirmed y h
+  pub confirm_at : (y : Cargo) → At confirmed y → P ((leaves (confirm_of c' (one_more_counted (g c')) y) q).waiting c) (counts (confirm_of c' (one_more_counted (g c')) y) g c) (names (confirm_of c' (one_more_counted (g c')) y) x c)
+  confirm_at empty h = at_none confirmed h
+  confirm_at (holds y) h = at_block confirmed y h
 
 -- the first block leaves
 books_leave : {s : List Block} {x : List Named} {out : List Block} {cnt sub : ℕ} {gone : List Gone} (g : Gone) (rest : List Block) → out ≡ block_of g ∷ rest → Books s x out cnt sub gone → Books s (x ++ name_at (length gone) g ∷ []) (drop 1 out) (one_more_counted cnt) sub (gone ++ g ∷ [])

@@ -7,11 +7,11 @@ use Rattle.ends.specs.Frames.{Request, Cargo}
 use Rattle.ends.specs.Host.{State, fresh, opening, idle, on_its_way, down}
 use Rattle.law.specs.Runs.{World}
 use Rattle.law.specs.Law.{AtMostFirst, none_of, delivered, Delivers, Delivery}
-use Rattle.law.proofs.Line.{line-le}
+use Rattle.law.proofs.Line.{line_le}
 use Rattle.law.proofs.Steps.{at}
 use Rattle.law.proofs.Sync.{last_two}
 use Rattle.law.proofs.Books.{Gone, Books, block_in, at_most, law_of}
-use Rattle.law.proofs.ToTnc.{carries, good_reply, if_good, Rest, settled-any}
+use Rattle.law.proofs.ToTnc.{carries, good_reply, if_good, Rest, settled_any}
 use Rattle.law.proofs.ToHost.{offers}
 use Rattle.law.proofs.Keeps.{Inv}
 
@@ -23,7 +23,7 @@ law_rest :
     → Delivers w.to_tnc w.host_out w.tnc_in c
 law_rest w c n m book gone mn b r =
     law_of w.to_tnc w.host_out w.tnc_in c gone (delivered w.to_tnc w.tnc_in c) [] b
-    (elim (ℕ_discrete m n) [ yes e ↦ r.rests (omega arith) | no h ↦ settled-any c n m book _ gone r (omega arith) ])
+    (elim (ℕ_discrete m n) [ yes e ↦ r.rests (omega arith) | no h ↦ settled_any c n m book _ gone r (omega arith) ])
     none_of (sym (append-nil _))
 
 at_most_good : (g : Bool) (y : Cargo) (out rest : List Block) → out ≡ block_in y ++ rest → AtMostFirst out (block_in (if_good g y))
@@ -40,7 +40,7 @@ law_up w (on_its_way f r) c low i =
     ⊎_elim
     (λ h. let g = u.acct.got h in law_of w.to_tnc w.host_out w.tnc_in c u.gone g.0 (block_in (if_good (good_reply w.tnc.held.reply) (carries c f))) u.books g.1 (at_most_good (good_reply w.tnc.held.reply) (carries c f) (w.host_out.waiting c) u.acct.waits.0 u.acct.waits.1) g.2)
     (λ h. law_of w.to_tnc w.host_out w.tnc_in c u.gone (delivered w.to_tnc w.tnc_in c) [] u.books (u.acct.lacks h) none_of (sym (append-nil _)))
-    (last_two i.m i.n i.sync.mn (omega (arith, i.sync.shape.0, line-le i.sync.dns)))
+    (last_two i.m i.n i.sync.mn (omega (arith, i.sync.shape.0, line_le i.sync.dns)))
 
 law_dn : (w : World) (c : ℕ) → c ≤ last_channel → Inv w → Delivers w.to_host w.tnc_out w.host_in c
 law_dn w c low i =

@@ -10,7 +10,7 @@ use Rattle.ends.specs.Tnc.{list_for}
 use Rattle.law.specs.Runs.{World, Limits, Call, host_open, host_step, host_timer, host_hear, host_submit, host_submit_again, host_collect, tnc_hear, tnc_submit, tnc_collect, host_passes, tnc_passes, with_readers, host_hears, tnc_hears, opens, steps, times, act, request_at, answer_at, Allowed, NotRepeated, Run, start, after, RepeatsNothing}
 use Rattle.law.specs.Law.{TakesDown, Unanswered, UsedUp}
 use Rattle.law.proofs.Steps.{host_heard, tnc_heard, at}
-use Rattle.law.proofs.Timer.{Counted, counted_begin, counted_open, counted_step, counted_timer, repeats_opening, repeats_on_its_way, Stands, counted_hear, counted-tnc}
+use Rattle.law.proofs.Timer.{Counted, counted_begin, counted_open, counted_step, counted_timer, repeats_opening, repeats_on_its_way, Stands, counted_hear, counted_tnc}
 
 -- A BYTE IS HEARD
 
@@ -45,8 +45,8 @@ counted_buffer true w v k h = k
 counted_buffer false w v k h = h
 
 module _ (good : (m : Meaning) → is_good (list_for m) ≡ true) where
-  counted-tnc-byte : (w : World) (size byte i : ℕ) → RequestsRead w → Allowed (tnc_hear size byte i) w → NotRepeated (tnc_hear size byte i) w → Counted w → Counted (act (tnc_hear size byte i) w)
-  counted-tnc-byte w size byte i reads ok once k = counted_buffer (ltb size longest_wire) w _ k (go (tnc_passes size byte w) refl)
+  counted_tnc_byte : (w : World) (size byte i : ℕ) → RequestsRead w → Allowed (tnc_hear size byte i) w → NotRepeated (tnc_hear size byte i) w → Counted w → Counted (act (tnc_hear size byte i) w)
+  counted_tnc_byte w size byte i reads ok once k = counted_buffer (ltb size longest_wire) w _ k (go (tnc_passes size byte w) refl)
     where
       tr : reader.Meaning
       tr = (hears w.tnc_reader byte).then
@@ -55,22 +55,22 @@ module _ (good : (m : Meaning) → is_good (list_for m) ≡ true) where
       go None e = counted_readers w.host_reader tr w k
       go (Some body) e =
           let is = ok body e in
-          let h = counted-tnc good w i (once body e, is.1) k in
+          let h = counted_tnc good w i (once body e, is.1) k in
           subst (λ (q : Request). Counted (with_readers w.host_reader tr (tnc_heard q i w))) (sym (ap request_read is.2 ∙ reads i is.1)) (counted_readers w.host_reader tr _ h)
 
   -- EVERY CALL
 
-  counted-act : (w : World) (c : Call) → AnswersRead w → RequestsRead w → Allowed c w → NotRepeated c w → Counted w → Counted (act c w)
-  counted-act w (host_open size) ra rq ok once k = counted_buffer (ltb size longest_wire) w (opens w) k (counted_open w w.host.state k)
-  counted-act w (host_step size) ra rq ok once k = counted_buffer (ltb size longest_wire) w (steps w) k (counted_step w w.host.state k)
-  counted-act w (host_timer size) ra rq ok once k = counted_buffer (ltb size longest_wire) w (times w) k (counted_timer w w.host.state k)
-  counted-act w (host_hear byte i) ra rq ok once k = (counted_host_byte w byte i ra ok once k).counts
-  counted-act w (host_submit c b) ra rq ok once k = record { up_within = k.up_within; dn_within = k.dn_within; sends = k.sends; track = k.track }
-  counted-act w (host_submit_again c n b) ra rq ok once k = record { up_within = k.up_within; dn_within = k.dn_within; sends = k.sends; track = k.track }
-  counted-act w (host_collect c size) ra rq ok once k = record { up_within = k.up_within; dn_within = k.dn_within; sends = k.sends; track = k.track }
-  counted-act w (tnc_hear size byte i) ra rq ok once k = counted-tnc-byte w size byte i rq ok once k
-  counted-act w (tnc_submit c b) ra rq ok once k = record { up_within = k.up_within; dn_within = k.dn_within; sends = k.sends; track = k.track }
-  counted-act w (tnc_collect c size) ra rq ok once k = record { up_within = k.up_within; dn_within = k.dn_within; sends = k.sends; track = k.track }
+  counted_act : (w : World) (c : Call) → AnswersRead w → RequestsRead w → Allowed c w → NotRepeated c w → Counted w → Counted (act c w)
+  counted_act w (host_open size) ra rq ok once k = counted_buffer (ltb size longest_wire) w (opens w) k (counted_open w w.host.state k)
+  counted_act w (host_step size) ra rq ok once k = counted_buffer (ltb size longest_wire) w (steps w) k (counted_step w w.host.state k)
+  counted_act w (host_timer size) ra rq ok once k = counted_buffer (ltb size longest_wire) w (times w) k (counted_timer w w.host.state k)
+  counted_act w (host_hear byte i) ra rq ok once k = (counted_host_byte w byte i ra ok once k).counts
+  counted_act w (host_submit c b) ra rq ok once k = record { up_within = k.up_within; dn_within = k.dn_within; sends = k.sends; track = k.track }
+  counted_act w (host_submit_again c n b) ra rq ok once k = record { up_within = k.up_within; dn_within = k.dn_within; sends = k.sends; track = k.track }
+  counted_act w (host_collect c size) ra rq ok once k = record { up_within = k.up_within; dn_within = k.dn_within; sends = k.sends; track = k.track }
+  counted_act w (tnc_hear size byte i) ra rq ok once k = counted_tnc_byte w size byte i rq ok once k
+  counted_act w (tnc_submit c b) ra rq ok once k = record { up_within = k.up_within; dn_within = k.dn_within; sends = k.sends; track = k.track }
+  counted_act w (tnc_collect c size) ra rq ok once k = record { up_within = k.up_within; dn_within = k.dn_within; sends = k.sends; track = k.track }
 
 -- WHO TAKES THE LINK DOWN
 
@@ -150,12 +150,12 @@ used_up_takes w c k u = rw (u.is_timer, u.fits) (used_up_falls w w.host.state k 
 
 module _
     (good : (m : Meaning) → is_good (list_for m) ≡ true)
-    (readsAnswer : (setting : ℕ) (l : Limits) (w : World) → Run setting l w → AnswersRead w)
-    (readsRequest : (setting : ℕ) (l : Limits) (w : World) → Run setting l w → RequestsRead w)
+    (reads_answer : (setting : ℕ) (l : Limits) (w : World) → Run setting l w → AnswersRead w)
+    (reads_request : (setting : ℕ) (l : Limits) (w : World) → Run setting l w → RequestsRead w)
   where
     pub counted : {setting : ℕ} {l : Limits} {w : World} (r : Run setting l w) → RepeatsNothing r → Counted w
     counted {setting} {l} start n = counted_begin setting l
-    counted {setting} {l} (after {w = w} r c ok) n = counted-act good w c (readsAnswer setting l w r) (readsRequest setting l w r) ok n.1 (counted r n.0)
+    counted {setting} {l} (after {w = w} r c ok) n = counted_act good w c (reads_answer setting l w r) (reads_request setting l w r) ok n.1 (counted r n.0)
 
-    pub timer-clause : (setting : ℕ) (l : Limits) (w : World) (r : Run setting l w) → RepeatsNothing r → (c : Call) → Allowed c w → NotRepeated c w → TakesDown w (act c w) ↔ UsedUp w c
-    timer-clause setting l w r n c ok once = (falls_used_up w c (readsAnswer setting l w r) ok once (counted r n), used_up_takes w c (counted r n))
+    pub timer_clause : (setting : ℕ) (l : Limits) (w : World) (r : Run setting l w) → RepeatsNothing r → (c : Call) → Allowed c w → NotRepeated c w → TakesDown w (act c w) ↔ UsedUp w c
+    timer_clause setting l w r n c ok once = (falls_used_up w c (reads_answer setting l w r) ok once (counted r n), used_up_takes w c (counted r n))

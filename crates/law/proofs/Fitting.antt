@@ -160,41 +160,41 @@ module _ (w : World) (f : Fits w) where
   fit_stays : FitHost (stays w.host w.host_out w.host_in)
   fit_stays = record { out = f.host_out; poll_list = f.poll_list; sent = f.sent; wrote = tt }
 
-  fit-down : FitHost (goes_down w.host w.host_out w.host_in)
-  fit-down = record { out = stock_word (loss_word w.host) w.host_out f.host_out; poll_list = f.poll_list; sent = tt; wrote = tt }
+  fit_down : FitHost (goes_down w.host w.host_out w.host_in)
+  fit_down = record { out = stock_word (loss_word w.host) w.host_out f.host_out; poll_list = f.poll_list; sent = tt; wrote = tt }
 
-  fit-open : (r : Sending) → FitHost (by_open r w.host w.host_out w.host_in)
-  fit-open not_allowed = fit_stays
-  fit-open sends = record { out = f.host_out; poll_list = tt; sent = tt; wrote = record { place = inr refl; shape = tt } }
-  fit-open sends_again = fit_stays
-  fit-open gives_up = fit_stays
+  fit_open : (r : Sending) → FitHost (by_open r w.host w.host_out w.host_in)
+  fit_open not_allowed = fit_stays
+  fit_open sends = record { out = f.host_out; poll_list = tt; sent = tt; wrote = record { place = inr refl; shape = tt } }
+  fit_open sends_again = fit_stays
+  fit_open gives_up = fit_stays
 
   fit_next : FitRequest (next_request w.host w.host_out)
   fit_next = fit_request _ _ (fit_pick w.host.block_refused w.host.poll_list w.host_out f.poll_list f.host_out)
 
-  fit-step : (r : Sending) → FitHost (by_step r w.host w.host_out w.host_in)
-  fit-step not_allowed = fit_stays
-  fit-step sends = record { out = f.host_out; poll_list = list_after_low w.host.block_refused w.host.poll_list f.poll_list; sent = fit_next; wrote = fit_next }
-  fit-step sends_again = fit_stays
-  fit-step gives_up = fit_stays
+  fit_step : (r : Sending) → FitHost (by_step r w.host w.host_out w.host_in)
+  fit_step not_allowed = fit_stays
+  fit_step sends = record { out = f.host_out; poll_list = list_after_low w.host.block_refused w.host.poll_list f.poll_list; sent = fit_next; wrote = fit_next }
+  fit_step sends_again = fit_stays
+  fit_step gives_up = fit_stays
 
-  fit-timer : (r : Sending) → FitHost (by_timer r w.host w.host_out w.host_in)
-  fit-timer not_allowed = fit_stays
-  fit-timer sends = fit_stays
-  fit-timer sends_again = record { out = f.host_out; poll_list = f.poll_list; sent = again_state w.host.state f.sent; wrote = again_wrote w.host.state w.host.generation f.sent }
-  fit-timer gives_up = fit-down
+  fit_timer : (r : Sending) → FitHost (by_timer r w.host w.host_out w.host_in)
+  fit_timer not_allowed = fit_stays
+  fit_timer sends = fit_stays
+  fit_timer sends_again = record { out = f.host_out; poll_list = f.poll_list; sent = again_state w.host.state f.sent; wrote = again_wrote w.host.state w.host.generation f.sent }
+  fit_timer gives_up = fit_down
 
-  fit-hear : (r : HostRule) (a : Answer) → FitAnswer a → FitHost (by_hear r a w.host w.host_out w.host_in)
-  fit-hear stale a h = fit_stays
-  fit-hear spare_used a h = record { out = f.host_out; poll_list = f.poll_list; sent = f.sent; wrote = tt }
-  fit-hear opened a h = record { out = f.host_out; poll_list = list_in_low a.channel a.reply h.shape; sent = tt; wrote = tt }
-  fit-hear confirmed a h = record { out = stock_word (confirm_word w.host) w.host_out f.host_out; poll_list = f.poll_list; sent = tt; wrote = tt }
-  fit-hear block_refused a h = record { out = f.host_out; poll_list = f.poll_list; sent = tt; wrote = tt }
-  fit-hear nothing_there a h = record { out = f.host_out; poll_list = f.poll_list; sent = tt; wrote = tt }
-  fit-hear received a h = record { out = f.host_out; poll_list = f.poll_list; sent = tt; wrote = tt }
-  fit-hear listed a h = record { out = f.host_out; poll_list = list_in_low a.channel a.reply h.shape; sent = tt; wrote = tt }
-  fit-hear no_room a h = fit_stays
-  fit-hear (falls cause) a h = fit-down
+  fit_hear : (r : HostRule) (a : Answer) → FitAnswer a → FitHost (by_hear r a w.host w.host_out w.host_in)
+  fit_hear stale a h = fit_stays
+  fit_hear spare_used a h = record { out = f.host_out; poll_list = f.poll_list; sent = f.sent; wrote = tt }
+  fit_hear opened a h = record { out = f.host_out; poll_list = list_in_low a.channel a.reply h.shape; sent = tt; wrote = tt }
+  fit_hear confirmed a h = record { out = stock_word (confirm_word w.host) w.host_out f.host_out; poll_list = f.poll_list; sent = tt; wrote = tt }
+  fit_hear block_refused a h = record { out = f.host_out; poll_list = f.poll_list; sent = tt; wrote = tt }
+  fit_hear nothing_there a h = record { out = f.host_out; poll_list = f.poll_list; sent = tt; wrote = tt }
+  fit_hear received a h = record { out = f.host_out; poll_list = f.poll_list; sent = tt; wrote = tt }
+  fit_hear listed a h = record { out = f.host_out; poll_list = list_in_low a.channel a.reply h.shape; sent = tt; wrote = tt }
+  fit_hear no_room a h = fit_stays
+  fit_hear (falls cause) a h = fit_down
 
 -- THE TNC
 
@@ -219,15 +219,15 @@ fit_reply (information b) c place out f s =
 fit_reply (command p) c place out f s = absurd f
 
 module _ (w : World) (f : Fits w) where
-  fit-tnc : (r : TncRule) (q : Request) → FitRequest q → FitTnc (by_tnc r q w.tnc w.tnc_out w.tnc_in)
-  fit-tnc flagged q h = record { out = f.tnc_out; held = f.held; wrote = tt }
-  fit-tnc early q h = record { out = f.tnc_out; held = f.held; wrote = tt }
-  fit-tnc resets q h =
+  fit_tnc : (r : TncRule) (q : Request) → FitRequest q → FitTnc (by_tnc r q w.tnc w.tnc_out w.tnc_in)
+  fit_tnc flagged q h = record { out = f.tnc_out; held = f.held; wrote = tt }
+  fit_tnc early q h = record { out = f.tnc_out; held = f.held; wrote = tt }
+  fit_tnc resets q h =
       let left = out_after resets w.tnc w.tnc_out in
       let a : FitAnswer (answer_to q (message (list_for left))) = record { place = h.place; shape = list_good left } in
       record { out = stock_word (tnc_word resets w.tnc) w.tnc_out f.tnc_out; held = a; wrote = a }
-  fit-tnc again q h = record { out = f.tnc_out; held = f.held; wrote = f.held }
-  fit-tnc accepts q h =
+  fit_tnc again q h = record { out = f.tnc_out; held = f.held; wrote = f.held }
+  fit_tnc accepts q h =
       let left = out_after accepts w.tnc w.tnc_out in
       let out : Stock left = stock_word (tnc_word accepts w.tnc) w.tnc_out f.tnc_out in
       let place = has_place w.tnc_in q.channel (cargo_of q.load) in
@@ -243,20 +243,20 @@ all_written P l (one f) a p = All-push P l f a p
 
 module _ (w : World) (f : Fits w) where
   -- a frame written fits, so its body is read as it
-  pub request-fit : (i : ℕ) → i < length w.up → FitRequest (request_at w i)
-  request-fit i h = All-get_or FitRequest w.up i no_request h f.up
+  pub request_fit : (i : ℕ) → i < length w.up → FitRequest (request_at w i)
+  request_fit i h = All-get_or FitRequest w.up i no_request h f.up
 
-  pub answer-fit : (i : ℕ) → i < length w.dn → FitAnswer (answer_at w i)
-  answer-fit i h = All-get_or FitAnswer w.dn i no_answer h f.dn
+  pub answer_fit : (i : ℕ) → i < length w.dn → FitAnswer (answer_at w i)
+  answer_fit i h = All-get_or FitAnswer w.dn i no_answer h f.dn
 
-  request-read : (i : ℕ) → i < length w.up → request_read (request_body (request_at w i)) ≡ request_at w i
-  request-read i h = request_trip (request_at w i) (request-fit i h)
+  request_read_fit : (i : ℕ) → i < length w.up → request_read (request_body (request_at w i)) ≡ request_at w i
+  request_read_fit i h = request_trip (request_at w i) (request_fit i h)
 
-  answer-read : (i : ℕ) → i < length w.dn → answer_read (answer_body (answer_at w i)) ≡ answer_at w i
-  answer-read i h = answer_trip (answer_at w i) (answer-fit i h)
+  answer_read_fit : (i : ℕ) → i < length w.dn → answer_read (answer_body (answer_at w i)) ≡ answer_at w i
+  answer_read_fit i h = answer_trip (answer_at w i) (answer_fit i h)
 
-  fit-host : (s : HostStep) (i j k : ℕ) → FitHost s → Fits (after_host s i j k w)
-  fit-host s i j k h = record {
+  fit_host : (s : HostStep) (i j k : ℕ) → FitHost s → Fits (after_host s i j k w)
+  fit_host s i j k h = record {
     host_out = h.out;
     tnc_out = f.tnc_out;
     poll_list = h.poll_list;
@@ -267,23 +267,23 @@ module _ (w : World) (f : Fits w) where
   }
 
   -- a body that passes is that of a frame written
-  host-hears : (i : ℕ) (o : Option (List ℕ))
+  host_hears_fit : (i : ℕ) (o : Option (List ℕ))
       → ((body : List ℕ) → o ≡ Some body → (w.dn_at ≤ i) × (i < length w.dn) × (body ≡ answer_body (answer_at w i)))
       → Fits (host_hears o i w)
-  host-hears i None ok = f
-  host-hears i (Some body) ok =
+  host_hears_fit i None ok = f
+  host_hears_fit i (Some body) ok =
       let k = ok body refl in
-      let a : FitAnswer (answer_read body) = subst FitAnswer (sym (ap answer_read k.2 ∙ answer-read i k.1)) (answer-fit i k.1) in
-      fit-host _ i (suc i) w.tries (fit-hear w f (host_rule w.host w.host_in (answer_read body)) (answer_read body) a)
+      let a : FitAnswer (answer_read body) = subst FitAnswer (sym (ap answer_read k.2 ∙ answer_read_fit i k.1)) (answer_fit i k.1) in
+      fit_host _ i (suc i) w.tries (fit_hear w f (host_rule w.host w.host_in (answer_read body)) (answer_read body) a)
 
-  tnc-hears : (i : ℕ) (o : Option (List ℕ))
+  tnc_hears_fit : (i : ℕ) (o : Option (List ℕ))
       → ((body : List ℕ) → o ≡ Some body → (w.up_at ≤ i) × (i < length w.up) × (body ≡ request_body (request_at w i)))
       → Fits (tnc_hears o i w)
-  tnc-hears i None ok = f
-  tnc-hears i (Some body) ok =
+  tnc_hears_fit i None ok = f
+  tnc_hears_fit i (Some body) ok =
       let k = ok body refl in
-      let q : FitRequest (request_read body) = subst FitRequest (sym (ap request_read k.2 ∙ request-read i k.1)) (request-fit i k.1) in
-      let h = fit-tnc w f (tnc_rule w.tnc (request_read body)) (request_read body) q in
+      let q : FitRequest (request_read body) = subst FitRequest (sym (ap request_read k.2 ∙ request_read_fit i k.1)) (request_fit i k.1) in
+      let h = fit_tnc w f (tnc_rule w.tnc (request_read body)) (request_read body) q in
       record {
         host_out = f.host_out;
         tnc_out = h.out;
@@ -295,17 +295,17 @@ module _ (w : World) (f : Fits w) where
       }
 
   -- other readers and incoming stores do not matter
-  fit-readers : (hr tr : reader.Meaning) → Fits (with_readers hr tr w)
-  fit-readers hr tr = record { host_out = f.host_out; tnc_out = f.tnc_out; poll_list = f.poll_list; sent = f.sent; held = f.held; up = f.up; dn = f.dn }
+  fit_readers : (hr tr : reader.Meaning) → Fits (with_readers hr tr w)
+  fit_readers hr tr = record { host_out = f.host_out; tnc_out = f.tnc_out; poll_list = f.poll_list; sent = f.sent; held = f.held; up = f.up; dn = f.dn }
 
-  fit-host-collect : (c size : ℕ) → Fits (host_collects c size w)
-  fit-host-collect c size = record { host_out = f.host_out; tnc_out = f.tnc_out; poll_list = f.poll_list; sent = f.sent; held = f.held; up = f.up; dn = f.dn }
+  fit_host_collect : (c size : ℕ) → Fits (host_collects c size w)
+  fit_host_collect c size = record { host_out = f.host_out; tnc_out = f.tnc_out; poll_list = f.poll_list; sent = f.sent; held = f.held; up = f.up; dn = f.dn }
 
-  fit-tnc-collect : (c size : ℕ) → Fits (tnc_collects c size w)
-  fit-tnc-collect c size = record { host_out = f.host_out; tnc_out = f.tnc_out; poll_list = f.poll_list; sent = f.sent; held = f.held; up = f.up; dn = f.dn }
+  fit_tnc_collect : (c size : ℕ) → Fits (tnc_collects c size w)
+  fit_tnc_collect c size = record { host_out = f.host_out; tnc_out = f.tnc_out; poll_list = f.poll_list; sent = f.sent; held = f.held; up = f.up; dn = f.dn }
 
-  fit-host-submit : (c : ℕ) (b : Block) → Fits (host_submits c b w)
-  fit-host-submit c b = record {
+  fit_host_submit : (c : ℕ) (b : Block) → Fits (host_submits c b w)
+  fit_host_submit c b = record {
     host_out = stock_submit w.host.submitted w.host_out c b f.host_out;
     tnc_out = f.tnc_out;
     poll_list = f.poll_list;
@@ -315,8 +315,8 @@ module _ (w : World) (f : Fits w) where
     dn = f.dn;
   }
 
-  fit-tnc-submit : (c : ℕ) (b : Block) → Fits (tnc_submits c b w)
-  fit-tnc-submit c b = record {
+  fit_tnc_submit : (c : ℕ) (b : Block) → Fits (tnc_submits c b w)
+  fit_tnc_submit c b = record {
     host_out = f.host_out;
     tnc_out = stock_submit w.tnc.submitted w.tnc_out c b f.tnc_out;
     poll_list = f.poll_list;
@@ -326,21 +326,21 @@ module _ (w : World) (f : Fits w) where
     dn = f.dn;
   }
 
-  fit-buffer : (size : ℕ) (v : World) → Fits v → Fits (in_buffer size w v)
-  fit-buffer size v g = cond_both (ltb size longest_wire) w v Fits (λ e. f) (λ e. g)
+  fit_buffer : (size : ℕ) (v : World) → Fits v → Fits (in_buffer size w v)
+  fit_buffer size v g = cond_both (ltb size longest_wire) w v Fits (λ e. f) (λ e. g)
 
 fit_after : (w : World) → Fits w → (c : Call) → Allowed c w → Fits (act c w)
-fit_after w f (host_open size) ok = fit-buffer w f size (opens w) (fit-host w f _ _ _ _ (fit-open w f (open_rule w.host.state)))
-fit_after w f (host_step size) ok = fit-buffer w f size (steps w) (fit-host w f _ _ _ _ (fit-step w f (step_rule w.host.state)))
-fit_after w f (host_timer size) ok = fit-buffer w f size (times w) (fit-host w f _ _ _ _ (fit-timer w f (timer_rule w.host.setting w.host.state)))
-fit_after w f (host_hear byte i) ok = fit-readers (host_hears (host_passes byte w) i w) (host-hears w f i (host_passes byte w) ok) _ _
-fit_after w f (host_submit c b) ok = fit-host-submit w f c b
-fit_after w f (host_submit_again c n b) ok = fit-host-submit w f c b
-fit_after w f (host_collect c size) ok = fit-host-collect w f c size
+fit_after w f (host_open size) ok = fit_buffer w f size (opens w) (fit_host w f _ _ _ _ (fit_open w f (open_rule w.host.state)))
+fit_after w f (host_step size) ok = fit_buffer w f size (steps w) (fit_host w f _ _ _ _ (fit_step w f (step_rule w.host.state)))
+fit_after w f (host_timer size) ok = fit_buffer w f size (times w) (fit_host w f _ _ _ _ (fit_timer w f (timer_rule w.host.setting w.host.state)))
+fit_after w f (host_hear byte i) ok = fit_readers (host_hears (host_passes byte w) i w) (host_hears_fit w f i (host_passes byte w) ok) _ _
+fit_after w f (host_submit c b) ok = fit_host_submit w f c b
+fit_after w f (host_submit_again c n b) ok = fit_host_submit w f c b
+fit_after w f (host_collect c size) ok = fit_host_collect w f c size
 fit_after w f (tnc_hear size byte i) ok =
-    fit-buffer w f size _ (fit-readers (tnc_hears (tnc_passes size byte w) i w) (tnc-hears w f i (tnc_passes size byte w) ok) _ _)
-fit_after w f (tnc_submit c b) ok = fit-tnc-submit w f c b
-fit_after w f (tnc_collect c size) ok = fit-tnc-collect w f c size
+    fit_buffer w f size _ (fit_readers (tnc_hears (tnc_passes size byte w) i w) (tnc_hears_fit w f i (tnc_passes size byte w) ok) _ _)
+fit_after w f (tnc_submit c b) ok = fit_tnc_submit w f c b
+fit_after w f (tnc_collect c size) ok = fit_tnc_collect w f c size
 
 pub fits : {setting : ℕ} {l : Limits} {w : World} → Run setting l w → Fits w
 fits start = record { host_out = λ c. tt; tnc_out = λ c. tt; poll_list = tt; sent = tt; held = record { place = inr refl; shape = tt }; up = tt; dn = tt }
@@ -348,8 +348,8 @@ fits (after {w = w} r c ok) = fit_after w (fits r) c ok
 
 pub request_at_fits : {setting : ℕ} {l : Limits} {w : World} → Run setting l w → (i : ℕ) → i < length w.up
     → request_read (request_body (request_at w i)) ≡ request_at w i
-request_at_fits {w = w} r i h = request-read w (fits r) i h
+request_at_fits {w = w} r i h = request_read_fit w (fits r) i h
 
 pub answer_at_fits : {setting : ℕ} {l : Limits} {w : World} → Run setting l w → (i : ℕ) → i < length w.dn
     → answer_read (answer_body (answer_at w i)) ≡ answer_at w i
-answer_at_fits {w = w} r i h = answer-read w (fits r) i h
+answer_at_fits {w = w} r i h = answer_read_fit w (fits r) i h

@@ -19,10 +19,10 @@ use Rattle.law.specs.Runs.{Named, World, Limits, begin, request_at, answer_at, n
 use Rattle.law.specs.Law.{delivered}
 use Rattle.law.proofs.Steps.{host_heard, tnc_heard, at}
 use Rattle.law.proofs.Stores.{joined_view, collect_same}
-use Rattle.law.proofs.Sync.{Sync, never, book', sync_begin, sync-fall, sync-moved, sync-step, sync-open-new, sync-open-old, sync-again, sync-opens, sync-takes, sync-deaf, sync-held, sync-resets, sync-accepts}
-use Rattle.law.proofs.Books.{block_in, carried, carried_empty, drop_c, doubt-at, confirm-at}
-use Rattle.law.proofs.ToTnc.{carries, good_reply, if_good, ToTnc, up_begin, up-submit, up-open-new, up_step, up-confirmed, up-stays, up-fall, up-resets, up-accepts, step_waits, step_flag, step_toggle}
-use Rattle.law.proofs.ToHost.{offers, ToHost, dn_begin, dn-submit, dn-fall, dn-open-old, dn-again, dn-open-new, dn-step, dn-opened, dn-taken, dn-resets, dn-accepts, reply_first}
+use Rattle.law.proofs.Sync.{Sync, never, book', sync_begin, sync_fall, sync_moved, sync_step, sync_open_new, sync_open_old, sync_again, sync_opens, sync_takes, sync_deaf, sync_held, sync_resets, sync_accepts}
+use Rattle.law.proofs.Books.{block_in, carried, carried_empty, drop_c, doubt_at, confirm_at}
+use Rattle.law.proofs.ToTnc.{carries, good_reply, if_good, ToTnc, up_begin, up_submit, up_open_new, up_step, up_confirmed, up_stays, up_fall, up_resets, up_accepts, step_waits, step_flag, step_toggle}
+use Rattle.law.proofs.ToHost.{offers, ToHost, dn_begin, dn_submit, dn_fall, dn_open_old, dn_again, dn_open_new, dn_step, dn_opened, dn_taken, dn_resets, dn_accepts, reply_first}
 
 -- n: the number of the host's current transmission; m: the last that the TNC heard; j: the lowest that an answer may still answer;
 -- book: the frame of each; pend: this generation's reset has been sent
@@ -44,15 +44,15 @@ submit_room :
     (s : ℕ → ℕ) (m : Meaning) (c x : ℕ) (b : Block) → (granted (submit_answer s m c b) && eqb x c) ≡ true → s x ≤ last_number → s x < last_number
 submit_room s m c x b e le = go (ltb last_channel c) (eqb (length b.bytes) 0 || ltb longest_block (length b.bytes)) (eqb (s c) last_number) (eqb x c) refl refl e
   where
-    no-and : (y : Bool) → (y && false) ≡ true → ⊥
-    no-and true v = never v
-    no-and false v = never v
+    no_and : (y : Bool) → (y && false) ≡ true → ⊥
+    no_and true v = never v
+    no_and false v = never v
 
     go : (d f g z : Bool) → eqb (s c) last_number ≡ g → eqb x c ≡ z → (granted (cond d (Err (Store BadChannel)) (cond f (Err (Store BadLength)) (cond g (Err NumbersUsed) (numbered (suc (s c)) (put_answer m c b))))) && z) ≡ true → s x < last_number
     go true f g z h r u = absurd (never u)
     go false true g z h r u = absurd (never u)
     go false false true z h r u = absurd (never u)
-    go false false false false h r u = absurd (no-and _ u)
+    go false false false false h r u = absurd (no_and _ u)
     go false false false true h r u = let q = eqb-false (s c) last_number h in let k : s x ≡ s c = ap s (eqb-true x c r) in omega arith
 
 pub keeps_host_submit : (w : World) (c : ℕ) (b : Block) → Inv w → Inv (host_submits c b w)
@@ -62,7 +62,7 @@ keeps_host_submit w c b i = record { n = i.n; m = i.m; j = i.j; book = i.book; p
     r = submit_answer w.host.submitted w.host_out c b
 
     go : (x : ℕ) (low : x ≤ last_channel) (z : Bool) → (granted r && eqb x c) ≡ z → ToTnc x w.host.state i.n i.m i.book (good_reply w.tnc.held.reply) (cond z (w.to_tnc.submitted x ++ b ∷ []) (w.to_tnc.submitted x)) (w.to_tnc.named x) (cond z (w.host_out.waiting x ++ b ∷ []) (w.host_out.waiting x)) (w.host.gone x) (cond z (suc (w.host.submitted x)) (w.host.submitted x)) (delivered w.to_tnc w.tnc_in x)
-    go x low true e = up-submit x w.host.state b (submit_room w.host.submitted w.host_out c x b e (i.to_tnc x low).books.most) (i.to_tnc x low)
+    go x low true e = up_submit x w.host.state b (submit_room w.host.submitted w.host_out c x b e (i.to_tnc x low).books.most) (i.to_tnc x low)
     go x low false e = i.to_tnc x low
 
 pub keeps_tnc_submit : (w : World) (c : ℕ) (b : Block) → Inv w → Inv (tnc_submits c b w)
@@ -72,7 +72,7 @@ keeps_tnc_submit w c b i = record { n = i.n; m = i.m; j = i.j; book = i.book; pe
     r = submit_answer w.tnc.submitted w.tnc_out c b
 
     go : (x : ℕ) (low : x ≤ last_channel) (z : Bool) → (granted r && eqb x c) ≡ z → ToHost x w.host.state i.n i.m i.book (offers x w.tnc.held) (cond z (w.to_host.submitted x ++ b ∷ []) (w.to_host.submitted x)) (w.to_host.named x) (cond z (w.tnc_out.waiting x ++ b ∷ []) (w.tnc_out.waiting x)) (w.tnc.gone x) (cond z (suc (w.tnc.submitted x)) (w.tnc.submitted x)) (delivered w.to_host w.host_in x)
-    go x low true e = dn-submit x b (submit_room w.tnc.submitted w.tnc_out c x b e (i.to_host x low).books.most) (i.to_host x low)
+    go x low true e = dn_submit x b (submit_room w.tnc.submitted w.tnc_out c x b e (i.to_host x low).books.most) (i.to_host x low)
     go x low false e = i.to_host x low
 
 pub keeps_host_collect : (w : World) (c size : ℕ) → Inv w → Inv (host_collects c size w)
@@ -89,9 +89,9 @@ fall_on dn_next tries w i = record {
   j = i.j;
   book = i.book;
   pend = i.pend;
-  sync = sync-fall i.sync;
-  to_tnc = λ c low. doubt-at (λ (o : List Block) (k : ℕ) (x : List Named). ToTnc c down i.n i.m i.book (good_reply w.tnc.held.reply) (w.to_tnc.submitted c) x o k (w.host.submitted c) (delivered w.to_tnc w.tnc_in c)) c (aboard_on w.host.state) low w.host_out w.host.gone w.to_tnc.named (aboard w.host.state) (up-fall c w.host.state i.sync (i.to_tnc c low));
-  to_host = λ c low. dn-fall c (i.to_host c low);
+  sync = sync_fall i.sync;
+  to_tnc = λ c low. doubt_at (λ (o : List Block) (k : ℕ) (x : List Named). ToTnc c down i.n i.m i.book (good_reply w.tnc.held.reply) (w.to_tnc.submitted c) x o k (w.host.submitted c) (delivered w.to_tnc w.tnc_in c)) c (aboard_on w.host.state) low w.host_out w.host.gone w.to_tnc.named (aboard w.host.state) (up_fall c w.host.state i.sync (i.to_tnc c low));
+  to_host = λ c low. dn_fall c (i.to_host c low);
 }
 
 -- the frame at a place passes
@@ -107,7 +107,7 @@ moved_w w x tries = after_host (stays w.host w.host_out w.host_in) x (suc x) tri
 
 moved : (w : World) (x tries : ℕ) → PassesDn x w → Inv w → Inv (moved_w w x tries)
 moved w x tries ok i =
-    let p = sync-moved w.host.state x ok.0 ok.1 i.sync in
+    let p = sync_moved w.host.state x ok.0 ok.1 i.sync in
     record { n = i.n; m = i.m; j = p.0; book = i.book; pend = i.pend; sync = p.3; to_tnc = i.to_tnc; to_host = i.to_host }
 
 late_on : (w : World) (x tries sp : ℕ) (a : Answer) → Inv (moved_w w x tries) → Inv (after_host (by_hear (out_of_sequence_rule sp) a w.host w.host_out w.host_in) x (suc x) tries w)
@@ -128,20 +128,20 @@ step_on_keeps w idle i =
       j = i.j;
       book = book' i.book i.n f;
       pend = false;
-      sync = sync-step f (step_flag _ p) (step_toggle _ p) i.sync;
+      sync = sync_step f (step_flag _ p) (step_toggle _ p) i.sync;
       to_tnc = λ c low. up_step c f i.sync.shape.0 (step_waits c _ h.block_refused h.poll_list w.host_out.waiting) (i.to_tnc c low);
-      to_host = λ c low. dn-step c f i.sync.shape.0 (i.to_host c low);
+      to_host = λ c low. dn_step c f i.sync.shape.0 (i.to_host c low);
     }
 step_on_keeps w (on_its_way f r) i = i
 step_on_keeps w down i = i
 
 -- open
 as_down : (w : World) → Inv (at w fresh) → Inv (at w down)
-as_down w i = record { n = i.n; m = i.m; j = i.j; book = i.book; pend = i.pend; sync = sync-fall i.sync; to_tnc = λ c low. record { gone = (i.to_tnc c low).gone; books = (i.to_tnc c low).books; acct = (i.to_tnc c low).acct }; to_host = λ c low. dn-fall c (i.to_host c low) }
+as_down w i = record { n = i.n; m = i.m; j = i.j; book = i.book; pend = i.pend; sync = sync_fall i.sync; to_tnc = λ c low. record { gone = (i.to_tnc c low).gone; books = (i.to_tnc c low).books; acct = (i.to_tnc c low).acct }; to_host = λ c low. dn_fall c (i.to_host c low) }
 
 open_down : (w : World) (i : Inv (at w down)) (b : Bool) → i.pend ≡ b → Inv (opens (at w down))
-open_down w i true e = record { n = i.n; m = i.m; j = i.j; book = i.book; pend = i.pend; sync = sync-open-old 0 e i.sync; to_tnc = λ c low. record { gone = (i.to_tnc c low).gone; books = (i.to_tnc c low).books; acct = (i.to_tnc c low).acct }; to_host = λ c low. dn-open-old c 0 (i.to_host c low) }
-open_down w i false e = record { n = suc i.n; m = i.m; j = i.j; book = book' i.book i.n (reset_request w.host.generation); pend = true; sync = sync-open-new e i.sync; to_tnc = λ c low. up-open-new c (reset_request w.host.generation) 0 i.sync.mn refl (i.to_tnc c low); to_host = λ c low. dn-open-new c (reset_request w.host.generation) 0 i.sync.mn refl (i.to_host c low) }
+open_down w i true e = record { n = i.n; m = i.m; j = i.j; book = i.book; pend = i.pend; sync = sync_open_old 0 e i.sync; to_tnc = λ c low. record { gone = (i.to_tnc c low).gone; books = (i.to_tnc c low).books; acct = (i.to_tnc c low).acct }; to_host = λ c low. dn_open_old c 0 (i.to_host c low) }
+open_down w i false e = record { n = suc i.n; m = i.m; j = i.j; book = book' i.book i.n (reset_request w.host.generation); pend = true; sync = sync_open_new e i.sync; to_tnc = λ c low. up_open_new c (reset_request w.host.generation) 0 i.sync.mn refl (i.to_tnc c low); to_host = λ c low. dn_open_new c (reset_request w.host.generation) 0 i.sync.mn refl (i.to_host c low) }
 
 open_on : (w : World) (st : State) → Inv (at w st) → Inv (opens (at w st))
 open_on w fresh i = open_down w (as_down w i) _ refl
@@ -156,13 +156,13 @@ timer_on w fresh i = i
 timer_on w (opening r) i = go (ltb r w.host.setting) refl
   where
     go : (b : Bool) → ltb r w.host.setting ≡ b → Inv (times (at w (opening r)))
-    go true e = rw e (record { n = i.n; m = i.m; j = i.j; book = i.book; pend = i.pend; sync = sync-open-old (suc r) i.sync.shape i.sync; to_tnc = λ c low. record { gone = (i.to_tnc c low).gone; books = (i.to_tnc c low).books; acct = (i.to_tnc c low).acct }; to_host = λ c low. dn-open-old c (suc r) (i.to_host c low) })
+    go true e = rw e (record { n = i.n; m = i.m; j = i.j; book = i.book; pend = i.pend; sync = sync_open_old (suc r) i.sync.shape i.sync; to_tnc = λ c low. record { gone = (i.to_tnc c low).gone; books = (i.to_tnc c low).books; acct = (i.to_tnc c low).acct }; to_host = λ c low. dn_open_old c (suc r) (i.to_host c low) })
     go false e = rw e (fall_on w.dn_next w.tries (at w (opening r)) i)
 timer_on w idle i = i
 timer_on w (on_its_way f r) i = go (ltb r w.host.setting) refl
   where
     go : (b : Bool) → ltb r w.host.setting ≡ b → Inv (times (at w (on_its_way f r)))
-    go true e = rw e (record { n = i.n; m = i.m; j = i.j; book = i.book; pend = i.pend; sync = sync-again f r i.sync; to_tnc = λ c low. record { gone = (i.to_tnc c low).gone; books = (i.to_tnc c low).books; acct = (i.to_tnc c low).acct }; to_host = λ c low. dn-again c f r (suc r) (i.to_host c low) })
+    go true e = rw e (record { n = i.n; m = i.m; j = i.j; book = i.book; pend = i.pend; sync = sync_again f r i.sync; to_tnc = λ c low. record { gone = (i.to_tnc c low).gone; books = (i.to_tnc c low).books; acct = (i.to_tnc c low).acct }; to_host = λ c low. dn_again c f r (suc r) (i.to_host c low) })
     go false e = rw e (fall_on w.dn_next w.tries (at w (on_its_way f r)) i)
 timer_on w down i = i
 
@@ -194,16 +194,16 @@ seq_elim f room a P yc yu yn yr yl yf yd = chan (eqb a.channel f.channel) f.load
     general? (block b) e h = yd
     general? (other k s) e h = yd
 
-    one-channel : (r : Reply) → a.reply ≡ r → cargo_of f.load ≡ empty → P (to_poll_rule room r)
-    one-channel success e h = yn h (ap cargo_in e)
-    one-channel (message l) e h = yd
-    one-channel (failure s) e h = yd
-    one-channel (block b) e h = room? (room b) (yr h b e) yf
-    one-channel (other k s) e h = yd
+    one_channel : (r : Reply) → a.reply ≡ r → cargo_of f.load ≡ empty → P (to_poll_rule room r)
+    one_channel success e h = yn h (ap cargo_in e)
+    one_channel (message l) e h = yd
+    one_channel (failure s) e h = yd
+    one_channel (block b) e h = room? (room b) (yr h b e) yf
+    one_channel (other k s) e h = yd
 
     polls : (z : Bool) (r : Reply) → a.reply ≡ r → cargo_of f.load ≡ empty → P (cond z (to_general r) (to_poll_rule room r))
     polls true r e h = general? r e h
-    polls false r e h = one-channel r e h
+    polls false r e h = one_channel r e h
 
     blocks : (r : Reply) → a.reply ≡ r → P (to_block_rule r)
     blocks success e = yc (ap good_reply e) (ap cargo_in e)
@@ -239,14 +239,14 @@ stored_at k c c' (holds b) q = ap (λ (l : List Block). k ++ l) (joined_view (pu
     go false z = sym (append-nil (k ++ q.waiting c))
 
 module _ (w : World) (f : Request) (r x : ℕ) (ok : PassesDn x w) (i : Inv (at w (on_its_way f r))) (fl : (answer_at w x).reset ≡ false) (tg : beq (answer_at w x).toggle f.toggle ≡ true) where
-  abbrev ruleW : HostRule → World
-  ruleW rule = after_host (by_hear rule (answer_at w x) (at w (on_its_way f r)).host w.host_out w.host_in) x (suc x) w.tries (at w (on_its_way f r))
+  abbrev rule_w : HostRule → World
+  rule_w rule = after_host (by_hear rule (answer_at w x) (at w (on_its_way f r)).host w.host_out w.host_in) x (suc x) w.tries (at w (on_its_way f r))
 
   mn : i.m ≡ i.n
-  mn = (sync-takes f r x ok.0 ok.1 fl tg i.sync).0
+  mn = (sync_takes f r x ok.0 ok.1 fl tg i.sync).0
 
   ah : answer_at w x ≡ w.tnc.held
-  ah = (sync-takes f r x ok.0 ok.1 fl tg i.sync).1
+  ah = (sync_takes f r x ok.0 ok.1 fl tg i.sync).1
 
   goods : (b : Bool) → good_reply (answer_at w x).reply ≡ b → good_reply w.tnc.held.reply ≡ b
   goods b e = ap (λ (z : Answer). good_reply z.reply) (sym ah) ∙ e
@@ -257,49 +257,49 @@ module _ (w : World) (f : Request) (r x : ℕ) (ok : PassesDn x w) (i : Inv (at 
   same : (c : ℕ) → cargo_in (answer_at w x).reply ≡ empty → delivered w.to_host w.host_in c ≡ delivered w.to_host w.host_in c ++ block_in (offers c w.tnc.held)
   same c e = sym (ap (λ (z : Cargo). delivered w.to_host w.host_in c ++ block_in z) (bare c e) ∙ append-nil _)
 
-  take-confirmed : good_reply (answer_at w x).reply ≡ true → cargo_in (answer_at w x).reply ≡ empty → Inv (ruleW confirmed)
-  take-confirmed g e = record {
+  take_confirmed : good_reply (answer_at w x).reply ≡ true → cargo_in (answer_at w x).reply ≡ empty → Inv (rule_w confirmed)
+  take_confirmed g e = record {
     n = i.n;
     m = i.m;
     j = i.n;
     book = i.book;
     pend = false;
-    sync = (sync-takes f r x ok.0 ok.1 fl tg i.sync).2;
-    to_tnc = λ c low. confirm-at (λ (o : List Block) (k : ℕ) (y : List Named). ToTnc c idle i.n i.m i.book (good_reply w.tnc.held.reply) (w.to_tnc.submitted c) y o k (w.host.submitted c) (delivered w.to_tnc w.tnc_in c)) c f.channel low w.host_out w.host.gone w.to_tnc.named (cargo_of f.load) (up-confirmed c f r mn (goods true g) (i.to_tnc c low));
-    to_host = λ c low. dn-taken c f r _ mn (same c e) (i.to_host c low);
+    sync = (sync_takes f r x ok.0 ok.1 fl tg i.sync).2;
+    to_tnc = λ c low. confirm_at (λ (o : List Block) (k : ℕ) (y : List Named). ToTnc c idle i.n i.m i.book (good_reply w.tnc.held.reply) (w.to_tnc.submitted c) y o k (w.host.submitted c) (delivered w.to_tnc w.tnc_in c)) c f.channel low w.host_out w.host.gone w.to_tnc.named (cargo_of f.load) (up_confirmed c f r mn (goods true g) (i.to_tnc c low));
+    to_host = λ c low. dn_taken c f r _ mn (same c e) (i.to_host c low);
   }
 
-  take-blockRefused : good_reply (answer_at w x).reply ≡ false → cargo_in (answer_at w x).reply ≡ empty → Inv (ruleW block_refused)
-  take-blockRefused g e = record {
+  take_block_refused : good_reply (answer_at w x).reply ≡ false → cargo_in (answer_at w x).reply ≡ empty → Inv (rule_w block_refused)
+  take_block_refused g e = record {
     n = i.n;
     m = i.m;
     j = i.n;
     book = i.book;
     pend = false;
-    sync = (sync-takes f r x ok.0 ok.1 fl tg i.sync).2;
-    to_tnc = λ c low. up-stays c f r mn (if_good_false _ (carries c f) (goods false g)) (i.to_tnc c low);
-    to_host = λ c low. dn-taken c f r _ mn (same c e) (i.to_host c low);
+    sync = (sync_takes f r x ok.0 ok.1 fl tg i.sync).2;
+    to_tnc = λ c low. up_stays c f r mn (if_good_false _ (carries c f) (goods false g)) (i.to_tnc c low);
+    to_host = λ c low. dn_taken c f r _ mn (same c e) (i.to_host c low);
   }
 
-  poll-stays : cargo_of f.load ≡ empty → (c : ℕ) → c ≤ last_channel → ToTnc c idle i.n i.m i.book (good_reply w.tnc.held.reply) (w.to_tnc.submitted c) (w.to_tnc.named c) (w.host_out.waiting c) (w.host.gone c) (w.host.submitted c) (delivered w.to_tnc w.tnc_in c)
-  poll-stays h c low = up-stays c f r mn (if_good_empty _ (carries c f) (carried_empty c f.channel (cargo_of f.load) h)) (i.to_tnc c low)
+  poll_stays : cargo_of f.load ≡ empty → (c : ℕ) → c ≤ last_channel → ToTnc c idle i.n i.m i.book (good_reply w.tnc.held.reply) (w.to_tnc.submitted c) (w.to_tnc.named c) (w.host_out.waiting c) (w.host.gone c) (w.host.submitted c) (delivered w.to_tnc w.tnc_in c)
+  poll_stays h c low = up_stays c f r mn (if_good_empty _ (carries c f) (carried_empty c f.channel (cargo_of f.load) h)) (i.to_tnc c low)
 
-  take-nothing-there : cargo_of f.load ≡ empty → cargo_in (answer_at w x).reply ≡ empty → Inv (ruleW nothing_there)
-  take-nothing-there h e = record { n = i.n; m = i.m; j = i.n; book = i.book; pend = false; sync = (sync-takes f r x ok.0 ok.1 fl tg i.sync).2; to_tnc = poll-stays h; to_host = λ c low. dn-taken c f r _ mn (same c e) (i.to_host c low) }
+  take_nothing_there : cargo_of f.load ≡ empty → cargo_in (answer_at w x).reply ≡ empty → Inv (rule_w nothing_there)
+  take_nothing_there h e = record { n = i.n; m = i.m; j = i.n; book = i.book; pend = false; sync = (sync_takes f r x ok.0 ok.1 fl tg i.sync).2; to_tnc = poll_stays h; to_host = λ c low. dn_taken c f r _ mn (same c e) (i.to_host c low) }
 
-  take-listed : cargo_of f.load ≡ empty → cargo_in (answer_at w x).reply ≡ empty → Inv (ruleW listed)
-  take-listed h e = record { n = i.n; m = i.m; j = i.n; book = i.book; pend = false; sync = (sync-takes f r x ok.0 ok.1 fl tg i.sync).2; to_tnc = poll-stays h; to_host = λ c low. dn-taken c f r _ mn (same c e) (i.to_host c low) }
+  take_listed : cargo_of f.load ≡ empty → cargo_in (answer_at w x).reply ≡ empty → Inv (rule_w listed)
+  take_listed h e = record { n = i.n; m = i.m; j = i.n; book = i.book; pend = false; sync = (sync_takes f r x ok.0 ok.1 fl tg i.sync).2; to_tnc = poll_stays h; to_host = λ c low. dn_taken c f r _ mn (same c e) (i.to_host c low) }
 
-  take-received : cargo_of f.load ≡ empty → (b : Block) → (answer_at w x).reply ≡ block b → room_for w.host_in (answer_at w x).channel b ≡ true → Inv (ruleW received)
-  take-received h b e room = record {
+  take_received : cargo_of f.load ≡ empty → (b : Block) → (answer_at w x).reply ≡ block b → room_for w.host_in (answer_at w x).channel b ≡ true → Inv (rule_w received)
+  take_received h b e room = record {
     n = i.n;
     m = i.m;
     j = i.n;
     book = i.book;
     pend = false;
-    sync = (sync-takes f r x ok.0 ok.1 fl tg i.sync).2;
-    to_tnc = poll-stays h;
-    to_host = λ c low. dn-taken c f r _ mn (came c) (i.to_host c low);
+    sync = (sync_takes f r x ok.0 ok.1 fl tg i.sync).2;
+    to_tnc = poll_stays h;
+    to_host = λ c low. dn_taken c f r _ mn (came c) (i.to_host c low);
   }
     where
       placed : has_place w.host_in (answer_at w x).channel (cargo_in (answer_at w x).reply) ≡ true
@@ -311,16 +311,16 @@ module _ (w : World) (f : Request) (r x : ℕ) (ok : PassesDn x w) (i : Inv (at 
           ∙ ap (λ (z : Bool). delivered w.to_host w.host_in c ++ block_in (if_good z (offers c (answer_at w x)))) placed
           ∙ ap (λ (z : Answer). delivered w.to_host w.host_in c ++ block_in (offers c z)) ah
 
-  in-sequence : Inv (ruleW (in_sequence f (room_for w.host_in (answer_at w x).channel) (answer_at w x)))
-  in-sequence =
+  in_sequence_keeps : Inv (rule_w (in_sequence f (room_for w.host_in (answer_at w x).channel) (answer_at w x)))
+  in_sequence_keeps =
       let past = moved (at w (on_its_way f r)) x w.tries ok i in
-      seq_elim f (room_for w.host_in (answer_at w x).channel) (answer_at w x) (λ (rule : HostRule). Inv (ruleW rule)) take-confirmed take-blockRefused take-nothing-there take-received take-listed past (fall_on (suc x) w.tries (moved_w (at w (on_its_way f r)) x w.tries) past)
+      seq_elim f (room_for w.host_in (answer_at w x).channel) (answer_at w x) (λ (rule : HostRule). Inv (rule_w rule)) take_confirmed take_block_refused take_nothing_there take_received take_listed past (fall_on (suc x) w.tries (moved_w (at w (on_its_way f r)) x w.tries) past)
 
 -- the host hears the reset's answer
 hear_opens : (w : World) (r x : ℕ) → PassesDn x w → Inv (at w (opening r)) → (answer_at w x).reset ≡ true → beq (answer_at w x).toggle w.host.generation ≡ true → Inv (after_host (by_hear opened (answer_at w x) (at w (opening r)).host w.host_out w.host_in) x (suc x) w.tries (at w (opening r)))
 hear_opens w r x ok i fl tg =
-    let p = sync-opens r x ok.0 ok.1 fl tg i.sync in
-    record { n = i.n; m = i.m; j = i.n; book = i.book; pend = false; sync = p.2; to_tnc = λ c low. record { gone = (i.to_tnc c low).gone; books = (i.to_tnc c low).books; acct = (i.to_tnc c low).acct }; to_host = λ c low. dn-opened c (carried_empty c w.tnc.held.channel (cargo_in w.tnc.held.reply) (i.sync.bare p.1)) p.0 (i.to_host c low) }
+    let p = sync_opens r x ok.0 ok.1 fl tg i.sync in
+    record { n = i.n; m = i.m; j = i.n; book = i.book; pend = false; sync = p.2; to_tnc = λ c low. record { gone = (i.to_tnc c low).gone; books = (i.to_tnc c low).books; acct = (i.to_tnc c low).acct }; to_host = λ c low. dn_opened c (carried_empty c w.tnc.held.channel (cargo_in w.tnc.held.reply) (i.sync.bare p.1)) p.0 (i.to_host c low) }
 
 hear_on : (w : World) (st : State) (x : ℕ) → PassesDn x w → Inv (at w st) → Inv (host_heard (answer_at w x) x (at w st))
 hear_on w fresh x ok i = moved (at w fresh) x w.tries ok i
@@ -342,7 +342,7 @@ hear_on w (on_its_way f r) x ok i = go (answer_at w x).reset (beq (answer_at w x
 
     go : (a b : Bool) → (answer_at w x).reset ≡ a → beq (answer_at w x).toggle f.toggle ≡ b → Inv (host_heard (answer_at w x) x (at w (on_its_way f r)))
     go true b e h = rw e lates
-    go false true e h = rw (e, h) (in-sequence w f r x ok i e h)
+    go false true e h = rw (e, h) (in_sequence_keeps w f r x ok i e h)
     go false false e h = rw (e, h) lates
 hear_on w down x ok i = moved (at w down) x w.tries ok i
 
@@ -351,15 +351,15 @@ abbrev told_w : World → ℕ → TncRule → World
 told_w w x rule = after_tnc (by_tnc rule (request_at w x) w.tnc w.tnc_out w.tnc_in) x w
 
 deaf : (w : World) (x : ℕ) → PassesUp x w → Inv w → Inv (told_w w x flagged)
-deaf w x ok i = record { n = i.n; m = i.m; j = i.j; book = i.book; pend = i.pend; sync = sync-deaf x ok.0 ok.1 i.sync; to_tnc = i.to_tnc; to_host = i.to_host }
+deaf w x ok i = record { n = i.n; m = i.m; j = i.j; book = i.book; pend = i.pend; sync = sync_deaf x ok.0 ok.1 i.sync; to_tnc = i.to_tnc; to_host = i.to_host }
 
 tells_again : (w : World) (x : ℕ) → PassesUp x w → Inv w → w.tnc.ready ≡ true → Inv (told_w w x again)
-tells_again w x ok i rd = record { n = i.n; m = i.m; j = i.j; book = i.book; pend = i.pend; sync = sync-held x ok.0 ok.1 rd i.sync; to_tnc = i.to_tnc; to_host = i.to_host }
+tells_again w x ok i rd = record { n = i.n; m = i.m; j = i.j; book = i.book; pend = i.pend; sync = sync_held x ok.0 ok.1 rd i.sync; to_tnc = i.to_tnc; to_host = i.to_host }
 
 tells_reset : (w : World) (x : ℕ) → PassesUp x w → Inv w → (request_at w x).reset ≡ true → Inv (told_w w x resets)
 tells_reset w x ok i fl =
     let a : Answer = reset_answer (request_at w x) w.tnc w.tnc_out in
-    let p = sync-resets w.host.state x a ok.0 ok.1 fl refl refl refl i.sync in
+    let p = sync_resets w.host.state x a ok.0 ok.1 fl refl refl refl i.sync in
     record {
       n = i.n;
       m = p.0;
@@ -367,8 +367,8 @@ tells_reset w x ok i fl =
       book = i.book;
       pend = i.pend;
       sync = p.4;
-      to_tnc = λ c low. up-resets c w.host.state p.0 true i.sync p.1 p.2 p.3 (i.to_tnc c low);
-      to_host = λ c low. doubt-at (λ (o : List Block) (k : ℕ) (y : List Named). ToHost c w.host.state i.n p.0 i.book (offers c a) (w.to_host.submitted c) y o k (w.tnc.submitted c) (delivered w.to_host w.host_in c)) c w.tnc.held.channel low w.tnc_out w.tnc.gone w.to_host.named (cargo_in w.tnc.held.reply) (dn-resets c w.host.state p.0 (offers c a) (carried_empty c (request_at w x).channel empty refl) (i.to_host c low));
+      to_tnc = λ c low. up_resets c w.host.state p.0 true i.sync p.1 p.2 p.3 (i.to_tnc c low);
+      to_host = λ c low. doubt_at (λ (o : List Block) (k : ℕ) (y : List Named). ToHost c w.host.state i.n p.0 i.book (offers c a) (w.to_host.submitted c) y o k (w.tnc.submitted c) (delivered w.to_host w.host_in c)) c w.tnc.held.channel low w.tnc_out w.tnc.gone w.to_host.named (cargo_in w.tnc.held.reply) (dn_resets c w.host.state p.0 (offers c a) (carried_empty c (request_at w x).channel empty refl) (i.to_host c low));
     }
 
 -- a block that a store takes is on a channel
@@ -392,7 +392,7 @@ tells_accept w x ok i fl rd tg =
     let f : Request = request_at w x in
     let q : Meaning = out_after accepts w.tnc w.tnc_out in
     let a : Answer = accepted_answer f w.tnc w.tnc_out w.tnc_in in
-    let p = sync-accepts w.host.state x a ok.0 ok.1 fl rd tg refl refl i.sync in
+    let p = sync_accepts w.host.state x a ok.0 ok.1 fl rd tg refl refl i.sync in
     record {
       n = i.n;
       m = suc i.m;
@@ -402,11 +402,11 @@ tells_accept w x ok i fl rd tg =
       sync = p.3;
       to_tnc = λ c low. subst (λ (d : List Block). ToTnc c w.host.state i.n (suc i.m) i.book (good_reply a.reply) (w.to_tnc.submitted c) (w.to_tnc.named c) (w.host_out.waiting c) (w.host.gone c) (w.host.submitted c) d)
           (sym (stored_at (w.to_tnc.collected c) c f.channel (cargo_of f.load) w.tnc_in ∙ ap (λ (z : Cargo). delivered w.to_tnc w.tnc_in c ++ block_in z) (good_place c f.load f.channel w.tnc_in q ∙ ap (λ (z : Request). if_good (good_reply a.reply) (carries c z)) p.1)))
-          (up-accepts c w.host.state (good_reply a.reply) i.sync p.0 p.2 (i.to_tnc c low));
+          (up_accepts c w.host.state (good_reply a.reply) i.sync p.0 p.2 (i.to_tnc c low));
       to_host = λ c low.
-          let e : q.waiting c ≡ drop_c (offers c w.tnc.held) (w.tnc_out.waiting c) = confirm-at (λ (o : List Block) (k : ℕ) (y : List Named). o ≡ drop_c (offers c w.tnc.held) (w.tnc_out.waiting c)) c w.tnc.held.channel low w.tnc_out w.tnc.gone w.to_host.named (cargo_in w.tnc.held.reply) refl in
+          let e : q.waiting c ≡ drop_c (offers c w.tnc.held) (w.tnc_out.waiting c) = confirm_at (λ (o : List Block) (k : ℕ) (y : List Named). o ≡ drop_c (offers c w.tnc.held) (w.tnc_out.waiting c)) c w.tnc.held.channel low w.tnc_out w.tnc.gone w.to_host.named (cargo_in w.tnc.held.reply) refl in
           let o = reply_first c f.load f.channel (has_place w.tnc_in f.channel (cargo_of f.load)) q in
-          confirm-at (λ (o : List Block) (k : ℕ) (y : List Named). ToHost c w.host.state i.n (suc i.m) i.book (offers c a) (w.to_host.submitted c) y o k (w.tnc.submitted c) (delivered w.to_host w.host_in c)) c w.tnc.held.channel low w.tnc_out w.tnc.gone w.to_host.named (cargo_in w.tnc.held.reply) (dn-accepts c w.host.state (offers c a) i.sync p.0 p.2 (o.0, sym e ∙ o.1) (i.to_host c low));
+          confirm_at (λ (o : List Block) (k : ℕ) (y : List Named). ToHost c w.host.state i.n (suc i.m) i.book (offers c a) (w.to_host.submitted c) y o k (w.tnc.submitted c) (delivered w.to_host w.host_in c)) c w.tnc.held.channel low w.tnc_out w.tnc.gone w.to_host.named (cargo_in w.tnc.held.reply) (dn_accepts c w.host.state (offers c a) i.sync p.0 p.2 (o.0, sym e ∙ o.1) (i.to_host c low));
     }
 
 tnc_on : (w : World) (x : ℕ) → PassesUp x w → Inv w → Inv (tnc_heard (request_at w x) x w)

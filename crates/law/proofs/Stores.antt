@@ -16,11 +16,11 @@ use Rattle.ends.specs.Blocks.{granted, changed, collect_store}
 -- drop-first of channel k, seen on channel c
 drop_here : (m : Meaning) (k : ℕ) (blocks : List Block) → k ≤ last_channel → m.waiting k ≡ blocks → (drop_after m k).waiting k ≡ drop 1 blocks
 drop_here m k [] low e =
-    let a : rules.drop_answer m k ≡ Err NoneWaiting = ap rules.granted (rules-first low ∙ ap first_answer e) in
+    let a : rules.drop_answer m k ≡ Err NoneWaiting = ap rules.granted (rules_first low ∙ ap first_answer e) in
     ap (λ r. (if_granted r (shortened m k) m).waiting k) a ∙ e
   where
-    rules-first : k ≤ last_channel → rules.first_waiting m k ≡ first_answer (m.waiting k)
-    rules-first l = ap (λ (t : Bool). cond t (Err BadChannel) (first_answer (m.waiting k))) (le-ltb last_channel k l)
+    rules_first : k ≤ last_channel → rules.first_waiting m k ≡ first_answer (m.waiting k)
+    rules_first l = ap (λ (t : Bool). cond t (Err BadChannel) (first_answer (m.waiting k))) (le-ltb last_channel k l)
 drop_here m k (b ∷ blocks) low e =
     ap (λ (x : Meaning). x.waiting k) (drop_goes m k b blocks low e).1 ∙ cond-true _ _ _ (same k)
   where

@@ -6,7 +6,7 @@ use Rattle.ends.specs.Frames.{Request, Answer, empty, cargo_in}
 use Rattle.ends.specs.Host.{State, fresh, opening, idle, on_its_way, down, reset_request}
 use Rattle.ends.specs.Tnc.{no_answer}
 use Rattle.law.specs.Runs.{no_request}
-use Rattle.law.proofs.Line.{Line, none, pass, write, turn, lower, line-le}
+use Rattle.law.proofs.Line.{Line, none, pass, write, turn, lower, line_le}
 
 pub never : ◌≡◌ {A = Bool} false true → ⊥
 never e = let z : ◌≡◌ {A = ℕ} 0 1 = cc in omega arith
@@ -110,23 +110,23 @@ module _ (book : ℕ → Request) (n : ℕ) (f : Request) where
   unfolding book'
   new = upd_new book (suc n) f
 
-  ups-old : (m : ℕ) (up : List Request) (up_at : ℕ) → 1 ≤ suc n → up_at ≤ length up → Line (UpQ book) n m (drop up_at up) → Line (UpQ book') (suc n) m (drop up_at (up ++ f ∷ []))
-  ups-old m up up_at a b l = write up up_at f b (a, sym new) (turn (omega arith) (λ k g lo hi q. (q.0, q.1 ∙ sym (old k hi))) l)
+  ups_old : (m : ℕ) (up : List Request) (up_at : ℕ) → 1 ≤ suc n → up_at ≤ length up → Line (UpQ book) n m (drop up_at up) → Line (UpQ book') (suc n) m (drop up_at (up ++ f ∷ []))
+  ups_old m up up_at a b l = write up up_at f b (a, sym new) (turn (omega arith) (λ k g lo hi q. (q.0, q.1 ∙ sym (old k hi))) l)
 
-  dns-old : (m j : ℕ) (held : Answer) (dn : List Answer) → m ≤ n → Line (DnQ book m held) m j dn → Line (DnQ book' m held) m j dn
-  dns-old m j held dn mn l = turn (omega arith) (λ k g lo hi q. (q.0, rw (old k (omega arith)) q.1, rw (old k (omega arith)) q.2, rw (old k (omega arith)) q.3)) l
+  dns_old : (m j : ℕ) (held : Answer) (dn : List Answer) → m ≤ n → Line (DnQ book m held) m j dn → Line (DnQ book' m held) m j dn
+  dns_old m j held dn mn l = turn (omega arith) (λ k g lo hi q. (q.0, rw (old k (omega arith)) q.1, rw (old k (omega arith)) q.2, rw (old k (omega arith)) q.3)) l
 
 module _ {n m j : ℕ} {book : ℕ → Request} {pend : Bool} {generation last ready tlast : Bool} {held : Answer} {up : List Request} {up_at : ℕ} {dn : List Answer} {dn_at : ℕ} where
-  pub sync-fall : {st : State} → Sync n m j book pend st generation last ready tlast held up up_at dn dn_at → Sync n m j book pend down generation last ready tlast held up up_at dn dn_at
-  sync-fall s = record { mn = s.mn; up_in = s.up_in; dn_in = s.dn_in; ups = s.ups; dns = s.dns; heard = s.heard; bare = s.bare; one = s.one; alt = s.alt; gens = s.gens; top = s.top; shape = tt }
+  pub sync_fall : {st : State} → Sync n m j book pend st generation last ready tlast held up up_at dn dn_at → Sync n m j book pend down generation last ready tlast held up up_at dn dn_at
+  sync_fall s = record { mn = s.mn; up_in = s.up_in; dn_in = s.dn_in; ups = s.ups; dns = s.dns; heard = s.heard; bare = s.bare; one = s.one; alt = s.alt; gens = s.gens; top = s.top; shape = tt }
 
-  pub sync-moved : (st : State) (x : ℕ) → dn_at ≤ x → x < length dn → Sync n m j book pend st generation last ready tlast held up up_at dn dn_at → (k : ℕ) × (j ≤ k) × (k ≤ m) × Sync n m k book pend st generation last ready tlast held up up_at dn x
-  sync-moved st x a b s =
+  pub sync_moved : (st : State) (x : ℕ) → dn_at ≤ x → x < length dn → Sync n m j book pend st generation last ready tlast held up up_at dn dn_at → (k : ℕ) × (j ≤ k) × (k ≤ m) × Sync n m k book pend st generation last ready tlast held up up_at dn x
+  sync_moved st x a b s =
       let p = pass dn dn_at x no_answer a b s.dns in
       (p.0, p.1, p.2, record { mn = s.mn; up_in = s.up_in; dn_in = omega arith; ups = s.ups; dns = p.4; heard = s.heard; bare = s.bare; one = s.one; alt = s.alt; gens = λ k c. s.gens k (omega (arith, p.1)); top = s.top; shape = shape_later st _ _ _ _ j _ _ p.1 p.2 s.mn s.shape })
 
-  pub sync-step : (f : Request) → f.reset ≡ false → f.toggle ≡ not last → Sync n m j book pend idle generation last ready tlast held up up_at dn dn_at → Sync (suc n) m j (book' book n f) false (on_its_way f 0) generation last ready tlast held (up ++ f ∷ []) up_at dn dn_at
-  sync-step f fl tg s =
+  pub sync_step : (f : Request) → f.reset ≡ false → f.toggle ≡ not last → Sync n m j book pend idle generation last ready tlast held up up_at dn dn_at → Sync (suc n) m j (book' book n f) false (on_its_way f 0) generation last ready tlast held (up ++ f ∷ []) up_at dn dn_at
+  sync_step f fl tg s =
       let mn : m ≡ n = s.shape.0 in
       let on : (k : ℕ) → k ≤ n → book' book n f k ≡ book k = old book n f in
       let nw : book' book n f (suc n) ≡ f = new book n f in
@@ -135,8 +135,8 @@ module _ {n m j : ℕ} {book : ℕ → Request} {pend : Bool} {generation last r
         mn = omega arith;
         up_in = simp length-append (omega (arith, s.up_in));
         dn_in = s.dn_in;
-        ups = ups-old book n f _ _ _ (omega arith) s.up_in s.ups;
-        dns = dns-old book n f _ _ _ _ s.mn s.dns;
+        ups = ups_old book n f _ _ _ (omega arith) s.up_in s.ups;
+        dns = dns_old book n f _ _ _ _ s.mn s.dns;
         heard = λ e. rw (on m s.mn) (s.heard e);
         bare = λ e. s.bare (rw (on m s.mn) at e);
         one = λ k a b e. omega arith;
@@ -146,16 +146,16 @@ module _ {n m j : ℕ} {book : ℕ → Request} {pend : Bool} {generation last r
         shape = (omega (arith, s.shape.1), nw, refl, fl, λ k e. let q : k ≡ n = omega arith in rw (on k (omega arith), q) (tg ∙ ap not s.shape.3), omega arith);
       }
 
-  pub sync-open-new : {st : State} → pend ≡ false → Sync n m j book pend st generation last ready tlast held up up_at dn dn_at → Sync (suc n) m j (book' book n (reset_request generation)) true (opening 0) generation last ready tlast held (up ++ reset_request generation ∷ []) up_at dn dn_at
-  sync-open-new np s =
+  pub sync_open_new : {st : State} → pend ≡ false → Sync n m j book pend st generation last ready tlast held up up_at dn dn_at → Sync (suc n) m j (book' book n (reset_request generation)) true (opening 0) generation last ready tlast held (up ++ reset_request generation ∷ []) up_at dn dn_at
+  sync_open_new np s =
       let on : (k : ℕ) → k ≤ n → book' book n (reset_request generation) k ≡ book k = old book n (reset_request generation) in
       let nw : book' book n (reset_request generation) (suc n) ≡ reset_request generation = new book n (reset_request generation) in
       record {
         mn = omega (arith, s.mn);
         up_in = simp length-append (omega (arith, s.up_in));
         dn_in = s.dn_in;
-        ups = ups-old book n (reset_request generation) _ _ _ (omega arith) s.up_in s.ups;
-        dns = dns-old book n (reset_request generation) _ _ _ _ s.mn s.dns;
+        ups = ups_old book n (reset_request generation) _ _ _ (omega arith) s.up_in s.ups;
+        dns = dns_old book n (reset_request generation) _ _ _ _ s.mn s.dns;
         heard = λ e. rw (on m s.mn) (s.heard e);
         bare = λ e. s.bare (rw (on m s.mn) at e);
         one = λ k a b e. elim (ℕ_discrete k (suc n)) [ yes q ↦ absurd (never (sym e ∙ ap (λ (x : ℕ). (book' book n (reset_request generation) x).reset) q ∙ ap (λ (y : Request). y.reset) nw)) | no q ↦ s.one k a (omega arith) (rw (on k (omega arith)) at e) ];
@@ -165,8 +165,8 @@ module _ {n m j : ℕ} {book : ℕ → Request} {pend : Bool} {generation last r
         shape = refl;
       }
 
-  pub sync-open-old : (r : ℕ) {st : State} → pend ≡ true → Sync n m j book pend st generation last ready tlast held up up_at dn dn_at → Sync n m j book pend (opening r) generation last ready tlast held (up ++ reset_request generation ∷ []) up_at dn dn_at
-  sync-open-old r p s =
+  pub sync_open_old : (r : ℕ) {st : State} → pend ≡ true → Sync n m j book pend st generation last ready tlast held up up_at dn dn_at → Sync n m j book pend (opening r) generation last ready tlast held (up ++ reset_request generation ∷ []) up_at dn dn_at
+  sync_open_old r p s =
       record {
         mn = s.mn;
         up_in = simp length-append (omega (arith, s.up_in));
@@ -182,11 +182,11 @@ module _ {n m j : ℕ} {book : ℕ → Request} {pend : Bool} {generation last r
         shape = p;
       }
 
-  pub sync-again : (f : Request) (r : ℕ) → Sync n m j book pend (on_its_way f r) generation last ready tlast held up up_at dn dn_at → Sync n m j book pend (on_its_way f (suc r)) generation last ready tlast held (up ++ f ∷ []) up_at dn dn_at
-  sync-again f r s = record { mn = s.mn; up_in = simp length-append (omega (arith, s.up_in)); dn_in = s.dn_in; ups = write up up_at f s.up_in (s.shape.5, sym s.shape.1) s.ups; dns = s.dns; heard = s.heard; bare = s.bare; one = s.one; alt = s.alt; gens = s.gens; top = s.top; shape = s.shape }
+  pub sync_again : (f : Request) (r : ℕ) → Sync n m j book pend (on_its_way f r) generation last ready tlast held up up_at dn dn_at → Sync n m j book pend (on_its_way f (suc r)) generation last ready tlast held (up ++ f ∷ []) up_at dn dn_at
+  sync_again f r s = record { mn = s.mn; up_in = simp length-append (omega (arith, s.up_in)); dn_in = s.dn_in; ups = write up up_at f s.up_in (s.shape.5, sym s.shape.1) s.ups; dns = s.dns; heard = s.heard; bare = s.bare; one = s.one; alt = s.alt; gens = s.gens; top = s.top; shape = s.shape }
 
-  pub sync-opens : (r x : ℕ) → dn_at ≤ x → x < length dn → (get_or dn x no_answer).reset ≡ true → beq (get_or dn x no_answer).toggle generation ≡ true → Sync n m j book pend (opening r) generation last ready tlast held up up_at dn dn_at → (m ≡ n) × ((book m).reset ≡ true) × Sync n m n book false idle (not generation) (get_or dn x no_answer).toggle ready tlast held up up_at dn x
-  sync-opens r x a b fl tg s =
+  pub sync_opens : (r x : ℕ) → dn_at ≤ x → x < length dn → (get_or dn x no_answer).reset ≡ true → beq (get_or dn x no_answer).toggle generation ≡ true → Sync n m j book pend (opening r) generation last ready tlast held up up_at dn dn_at → (m ≡ n) × ((book m).reset ≡ true) × Sync n m n book false idle (not generation) (get_or dn x no_answer).toggle ready tlast held up up_at dn x
+  sync_opens r x a b fl tg s =
       let p = pass dn dn_at x no_answer a b s.dns in
       let q = p.3 in
       let kn : p.0 ≡ n = elim (ℕ_discrete p.0 n) [ yes e ↦ e | no h ↦ absurd (never_not generation (sym (same_toggle _ _ tg) ∙ q.2 ∙ s.gens p.0 p.1 (rw s.shape (omega (arith, p.2, s.mn))) q.0 (sym q.1 ∙ fl))) ] in
@@ -209,8 +209,8 @@ module _ {n m j : ℕ} {book : ℕ → Request} {pend : Bool} {generation last r
         },
       )
 
-  pub sync-takes : (f : Request) (r x : ℕ) → dn_at ≤ x → x < length dn → (get_or dn x no_answer).reset ≡ false → beq (get_or dn x no_answer).toggle f.toggle ≡ true → Sync n m j book pend (on_its_way f r) generation last ready tlast held up up_at dn dn_at → (m ≡ n) × (get_or dn x no_answer ≡ held) × Sync n m n book false idle generation (get_or dn x no_answer).toggle ready tlast held up up_at dn x
-  sync-takes f r x a b fl tg s =
+  pub sync_takes : (f : Request) (r x : ℕ) → dn_at ≤ x → x < length dn → (get_or dn x no_answer).reset ≡ false → beq (get_or dn x no_answer).toggle f.toggle ≡ true → Sync n m j book pend (on_its_way f r) generation last ready tlast held up up_at dn dn_at → (m ≡ n) × (get_or dn x no_answer ≡ held) × Sync n m n book false idle generation (get_or dn x no_answer).toggle ready tlast held up up_at dn x
+  sync_takes f r x a b fl tg s =
       let p = pass dn dn_at x no_answer a b s.dns in
       let q = p.3 in
       let kn : p.0 ≡ n = ⊎_elim (λ h. h) (λ h. absurd (never_not f.toggle (s.shape.4 p.0 h ∙ ap not (sym q.2 ∙ same_toggle _ _ tg)))) (last_two p.0 n (omega (arith, p.2, s.mn)) (omega (arith, p.1, s.shape.0))) in
@@ -228,19 +228,19 @@ module _ {n m j : ℕ} {book : ℕ → Request} {pend : Bool} {generation last r
           bare = s.bare;
           one = s.one;
           alt = s.alt;
-          gens = λ k c d e h. s.gens k (omega (arith, line-le s.dns)) (rw s.shape.2 d) e h;
+          gens = λ k c d e h. s.gens k (omega (arith, line_le s.dns)) (rw s.shape.2 d) e h;
           top = λ e. absurd (never e);
           shape = (mn, refl, refl, q.2 ∙ ap (λ (y : ℕ). (book y).toggle) kn);
         },
       )
 
-  pub sync-deaf : {st : State} (x : ℕ) → up_at ≤ x → x < length up → Sync n m j book pend st generation last ready tlast held up up_at dn dn_at → Sync n m j book pend st generation last ready tlast held up x dn dn_at
-  sync-deaf x a b s =
+  pub sync_deaf : {st : State} (x : ℕ) → up_at ≤ x → x < length up → Sync n m j book pend st generation last ready tlast held up up_at dn dn_at → Sync n m j book pend st generation last ready tlast held up x dn dn_at
+  sync_deaf x a b s =
       let p = pass up up_at x no_request a b s.ups in
       record { mn = s.mn; up_in = omega arith; dn_in = s.dn_in; ups = lower m p.1 p.4; dns = s.dns; heard = s.heard; bare = s.bare; one = s.one; alt = s.alt; gens = s.gens; top = s.top; shape = s.shape }
 
-  pub sync-held : {st : State} (x : ℕ) → up_at ≤ x → x < length up → ready ≡ true → Sync n m j book pend st generation last ready tlast held up up_at dn dn_at → Sync n m j book pend st generation last ready tlast held up x (dn ++ held ∷ []) dn_at
-  sync-held x a b rd s =
+  pub sync_held : {st : State} (x : ℕ) → up_at ≤ x → x < length up → ready ≡ true → Sync n m j book pend st generation last ready tlast held up up_at dn dn_at → Sync n m j book pend st generation last ready tlast held up x (dn ++ held ∷ []) dn_at
+  sync_held x a b rd s =
       let p = pass up up_at x no_request a b s.ups in
       let y = s.heard rd in
       record {
@@ -258,13 +258,13 @@ module _ {n m j : ℕ} {book : ℕ → Request} {pend : Bool} {generation last r
         shape = s.shape;
       }
 
-  pub sync-resets : (st : State) (x : ℕ) (a : Answer) → up_at ≤ x → x < length up → (get_or up x no_request).reset ≡ true → a.reset ≡ (get_or up x no_request).reset → a.toggle ≡ (get_or up x no_request).toggle → cargo_in a.reply ≡ empty → Sync n m j book pend st generation last ready tlast held up up_at dn dn_at → (k : ℕ) × (m ≤ k) × (k ≤ n) × ((book k).reset ≡ true) × Sync n k j book pend st generation last true (get_or up x no_request).toggle a up x (dn ++ a ∷ []) dn_at
-  sync-resets st x a lo hi fl af at nc s =
+  pub sync_resets : (st : State) (x : ℕ) (a : Answer) → up_at ≤ x → x < length up → (get_or up x no_request).reset ≡ true → a.reset ≡ (get_or up x no_request).reset → a.toggle ≡ (get_or up x no_request).toggle → cargo_in a.reply ≡ empty → Sync n m j book pend st generation last ready tlast held up up_at dn dn_at → (k : ℕ) × (m ≤ k) × (k ≤ n) × ((book k).reset ≡ true) × Sync n k j book pend st generation last true (get_or up x no_request).toggle a up x (dn ++ a ∷ []) dn_at
+  sync_resets st x a lo hi fl af at nc s =
       let p = pass up up_at x no_request lo hi s.ups in
       let k : ℕ = p.0 in
       let fk : (book k).reset ≡ true = ap (λ (y : Request). y.reset) (sym p.3.1) ∙ fl in
       let tk : (get_or up x no_request).toggle ≡ (book k).toggle = ap (λ (y : Request). y.toggle) p.3.1 in
-      let jm = line-le s.dns in (
+      let jm = line_le s.dns in (
         k,
         p.1,
         p.2,
@@ -285,8 +285,8 @@ module _ {n m j : ℕ} {book : ℕ → Request} {pend : Bool} {generation last r
         },
       )
 
-  pub sync-accepts : (st : State) (x : ℕ) (a : Answer) → up_at ≤ x → x < length up → (get_or up x no_request).reset ≡ false → ready ≡ true → beq (get_or up x no_request).toggle tlast ≡ false → a.reset ≡ (get_or up x no_request).reset → a.toggle ≡ (get_or up x no_request).toggle → Sync n m j book pend st generation last ready tlast held up up_at dn dn_at → (suc m ≤ n) × (get_or up x no_request ≡ book (suc m)) × ((book (suc m)).reset ≡ false) × Sync n (suc m) j book pend st generation last true (get_or up x no_request).toggle a up x (dn ++ a ∷ []) dn_at
-  sync-accepts st x a lo hi fl rd tg af at s =
+  pub sync_accepts : (st : State) (x : ℕ) (a : Answer) → up_at ≤ x → x < length up → (get_or up x no_request).reset ≡ false → ready ≡ true → beq (get_or up x no_request).toggle tlast ≡ false → a.reset ≡ (get_or up x no_request).reset → a.toggle ≡ (get_or up x no_request).toggle → Sync n m j book pend st generation last ready tlast held up up_at dn dn_at → (suc m ≤ n) × (get_or up x no_request ≡ book (suc m)) × ((book (suc m)).reset ≡ false) × Sync n (suc m) j book pend st generation last true (get_or up x no_request).toggle a up x (dn ++ a ∷ []) dn_at
+  sync_accepts st x a lo hi fl rd tg af at s =
       let p = pass up up_at x no_request lo hi s.ups in
       let k : ℕ = p.0 in
       let f : Request = get_or up x no_request in

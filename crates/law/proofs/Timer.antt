@@ -17,7 +17,7 @@ use Rattle.law.proofs.Count.{one}
 use Rattle.law.proofs.Window.{split}
 use Rattle.law.proofs.Tally.{miss, miss_on}
 use Rattle.law.proofs.Track.{Stage, Ear, deaf, knows, never, same, unlike}
-use Rattle.law.proofs.Both.{Track, k-open-fresh, k-open-down, k-step, k-reset-again, k-again, k-fall-opening, k-fall-away, k-repeats-opening, k-repeats-away, k-unheard, k-opened, k-fits, k-taken, k-spare-idle, k-late-idle, k-spare-away, k-late-away, k-silent, k-reset, k-held, k-accept}
+use Rattle.law.proofs.Both.{Track, k_open_fresh, k_open_down, k_step, k_reset_again, k_again, k_fall_opening, k_fall_away, k_repeats_opening, k_repeats_away, k_unheard, k_opened, k_fits, k_taken, k_spare_idle, k_late_idle, k_spare_away, k_late_away, k_silent, k_reset, k_held, k_accept}
 
 -- WHAT IS KEPT
 
@@ -85,7 +85,7 @@ pub record Counted (w : World) : Type 0 where
   pub track : Tr w.host.setting w.tries (stage w.host.state) w.host.generation w.host.last w.host.spare w.host.resets (ear w.tnc.ready w.tnc.last w.tnc.held) (drop w.up_next w.up) (drop w.dn_next w.dn)
 
 pub counted_begin : (setting : ℕ) (l : Limits) → Counted (begin setting l)
-counted_begin setting l = record { up_within = omega arith; dn_within = omega arith; sends = tt; track = record { sync = record { n = 0; m = 0; j = 0; book = λ k. no_request; pend = false; mn = omega arith; ups = none (omega arith); dns = none (omega arith); held = tt; one = λ k a b e. omega arith; alt = λ a. absurd (omega arith); gens = λ k a b c e. absurd (omega arith); top = λ e. absurd (never e); shape = (refl, refl) }; bound = omega arith; asTried = tt } }
+counted_begin setting l = record { up_within = omega arith; dn_within = omega arith; sends = tt; track = record { sync = record { n = 0; m = 0; j = 0; book = λ k. no_request; pend = false; mn = omega arith; ups = none (omega arith); dns = none (omega arith); held = tt; one = λ k a b e. omega arith; alt = λ a. absurd (omega arith); gens = λ k a b c e. absurd (omega arith); top = λ e. absurd (never e); shape = (refl, refl) }; bound = omega arith; as_tried = tt } }
 
 longer : {A : Type 0} (n : ℕ) (written : List A) (x : A) → n ≤ length written → n ≤ length (written ++ x ∷ [])
 longer n written x h = simp length-append (omega arith)
@@ -93,11 +93,11 @@ longer n written x h = simp length-append (omega arith)
 -- OPEN, STEP, TIMER
 
 pub counted_open : (w : World) (s : State) → Counted (at w s) → Counted (opens (at w s))
-counted_open w fresh i = record { up_within = longer w.up_next w.up _ i.up_within; dn_within = i.dn_within; sends = tt; track = rw (drop-append-le w.up_next w.up (reset_request w.host.generation ∷ []) i.up_within) (k-open-fresh ff ft af ag Fits (reset_request w.host.generation) (one_reset_more w.host.resets) refl refl (omega arith) i.track) }
+counted_open w fresh i = record { up_within = longer w.up_next w.up _ i.up_within; dn_within = i.dn_within; sends = tt; track = rw (drop-append-le w.up_next w.up (reset_request w.host.generation ∷ []) i.up_within) (k_open_fresh ff ft af ag Fits (reset_request w.host.generation) (one_reset_more w.host.resets) refl refl (omega arith) i.track) }
 counted_open w (opening r) i = i
 counted_open w idle i = i
 counted_open w (on_its_way q r) i = i
-counted_open w down i = record { up_within = longer w.up_next w.up _ i.up_within; dn_within = i.dn_within; sends = tt; track = rw (drop-append-le w.up_next w.up (reset_request w.host.generation ∷ []) i.up_within) (k-open-down ff ft af ag Fits (reset_request w.host.generation) (one_reset_more w.host.resets) refl refl (omega arith) i.track) }
+counted_open w down i = record { up_within = longer w.up_next w.up _ i.up_within; dn_within = i.dn_within; sends = tt; track = rw (drop-append-le w.up_next w.up (reset_request w.host.generation ∷ []) i.up_within) (k_open_down ff ft af ag Fits (reset_request w.host.generation) (one_reset_more w.host.resets) refl refl (omega arith) i.track) }
 
 request_reset : (t : Bool) (p : Pick) → (request_for t p).reset ≡ false
 request_reset t poll_after_refusal = refl
@@ -123,7 +123,7 @@ counted_step w (opening r) i = i
 counted_step w idle i =
     let t : Bool = not w.host.last in
     let p : Pick = pick w.host.block_refused w.host.poll_list w.host_out.waiting in
-    record { up_within = longer w.up_next w.up _ i.up_within; dn_within = i.dn_within; sends = request_load t p; track = rw (drop-append-le w.up_next w.up (request_for t p ∷ []) i.up_within) (k-step ff ft af ag Fits (request_for t p) (request_reset t p) (request_toggle t p) i.track) }
+    record { up_within = longer w.up_next w.up _ i.up_within; dn_within = i.dn_within; sends = request_load t p; track = rw (drop-append-le w.up_next w.up (request_for t p ∷ []) i.up_within) (k_step ff ft af ag Fits (request_for t p) (request_reset t p) (request_toggle t p) i.track) }
 counted_step w (on_its_way q r) i = i
 counted_step w down i = i
 
@@ -132,22 +132,22 @@ counted_timer w fresh i = i
 counted_timer w (opening r) i = go (ltb r w.host.setting) refl
   where
     go : (b : Bool) → ltb r w.host.setting ≡ b → Counted (times (at w (opening r)))
-    go true e = rw e (record { up_within = longer w.up_next w.up _ i.up_within; dn_within = i.dn_within; sends = tt; track = rw (drop-append-le w.up_next w.up (reset_request w.host.generation ∷ []) i.up_within) (k-reset-again ff ft af ag Fits (reset_request w.host.generation) (one_reset_more w.host.resets) refl refl (omega arith) (ltb-true r w.host.setting e) i.track) })
-    go false e = rw e (record { up_within = i.up_within; dn_within = i.dn_within; sends = tt; track = k-fall-opening ff ft af ag Fits i.track })
+    go true e = rw e (record { up_within = longer w.up_next w.up _ i.up_within; dn_within = i.dn_within; sends = tt; track = rw (drop-append-le w.up_next w.up (reset_request w.host.generation ∷ []) i.up_within) (k_reset_again ff ft af ag Fits (reset_request w.host.generation) (one_reset_more w.host.resets) refl refl (omega arith) (ltb-true r w.host.setting e) i.track) })
+    go false e = rw e (record { up_within = i.up_within; dn_within = i.dn_within; sends = tt; track = k_fall_opening ff ft af ag Fits i.track })
 counted_timer w idle i = i
 counted_timer w (on_its_way q r) i = go (ltb r w.host.setting) refl
   where
     go : (b : Bool) → ltb r w.host.setting ≡ b → Counted (times (at w (on_its_way q r)))
-    go true e = rw e (record { up_within = longer w.up_next w.up _ i.up_within; dn_within = i.dn_within; sends = i.sends; track = rw (drop-append-le w.up_next w.up (q ∷ []) i.up_within) (k-again ff ft af ag Fits (ltb-true r w.host.setting e) i.track) })
-    go false e = rw e (record { up_within = i.up_within; dn_within = i.dn_within; sends = tt; track = k-fall-away ff ft af ag Fits i.track })
+    go true e = rw e (record { up_within = longer w.up_next w.up _ i.up_within; dn_within = i.dn_within; sends = i.sends; track = rw (drop-append-le w.up_next w.up (q ∷ []) i.up_within) (k_again ff ft af ag Fits (ltb-true r w.host.setting e) i.track) })
+    go false e = rw e (record { up_within = i.up_within; dn_within = i.dn_within; sends = tt; track = k_fall_away ff ft af ag Fits i.track })
 counted_timer w down i = i
 
 -- what the host keeps of a frame's repeats is what the run counts, and at most the setting
 pub repeats_opening : (w : World) (r : ℕ) → Counted (at w (opening r)) → (r ≤ w.host.setting) × (r ≡ w.tries)
-repeats_opening w r i = k-repeats-opening ff ft af ag Fits i.track
+repeats_opening w r i = k_repeats_opening ff ft af ag Fits i.track
 
 pub repeats_on_its_way : (w : World) (q : Request) (r : ℕ) → Counted (at w (on_its_way q r)) → (r ≤ w.host.setting) × (r ≡ w.tries)
-repeats_on_its_way w q r i = k-repeats-away ff ft af ag Fits i.track
+repeats_on_its_way w q r i = k_repeats_away ff ft af ag Fits i.track
 
 -- THE HOST HEARS
 
@@ -170,7 +170,7 @@ cut_dn {setting} {tries} {s} {gen} {last} {spare} {resets} {e} {U} written next 
 counted_unheard : (w : World) (x : ℕ) → Ahead w.dn_next w.dn x → Counted w → Stands w.host.state (heard_by w x stale)
 counted_unheard w x ok i =
     let c = cut_dn w.dn w.dn_next x ok.0 ok.1 i.track in
-    record { counts = record { up_within = i.up_within; dn_within = ok.1; sends = i.sends; track = k-unheard ff ft af ag Fits c.0 (answer_at w x) (drop (suc x) w.dn) c.1 }; up = λ e. e }
+    record { counts = record { up_within = i.up_within; dn_within = ok.1; sends = i.sends; track = k_unheard ff ft af ag Fits c.0 (answer_at w x) (drop (suc x) w.dn) c.1 }; up = λ e. e }
 
 below_last : (n : ℕ) → pred n < last_spare → (n ≡ last_spare → ⊥) → n < last_spare
 below_last zero h q = omega arith
@@ -187,43 +187,43 @@ lowered_once n = go (eqb n last_spare) refl
 counted_late_idle : (w : World) (x spare : ℕ) → Ahead w.dn_next w.dn x → Counted (at w idle) → w.host.spare ≡ spare → Stands idle (heard_by (at w idle) x (out_of_sequence_rule spare))
 counted_late_idle w x zero ok i e =
     let c = cut_dn w.dn w.dn_next x ok.0 ok.1 i.track in
-    let h = k-spare-idle ff ft af ag Fits c.0 (answer_at w x) (drop (suc x) w.dn) c.1 in absurd (omega arith)
+    let h = k_spare_idle ff ft af ag Fits c.0 (answer_at w x) (drop (suc x) w.dn) c.1 in absurd (omega arith)
 counted_late_idle w x (suc spare) ok i e =
     let c = cut_dn w.dn w.dn_next x ok.0 ok.1 i.track in
-    record { counts = record { up_within = i.up_within; dn_within = ok.1; sends = tt; track = k-late-idle ff ft af ag Fits c.0 (answer_at w x) (drop (suc x) w.dn) (lowered w.host.spare) (lowered_once w.host.spare) c.1 }; up = λ e. e }
+    record { counts = record { up_within = i.up_within; dn_within = ok.1; sends = tt; track = k_late_idle ff ft af ag Fits c.0 (answer_at w x) (drop (suc x) w.dn) (lowered w.host.spare) (lowered_once w.host.spare) c.1 }; up = λ e. e }
 
 counted_late : (w : World) (x spare : ℕ) (q : Request) (r : ℕ) → Ahead w.dn_next w.dn x → one (miss q.toggle (answer_at w x).reset (answer_at w x).toggle) ≡ 1 → Counted (at w (on_its_way q r)) → w.host.spare ≡ spare → Stands (on_its_way q r) (heard_by (at w (on_its_way q r)) x (out_of_sequence_rule spare))
 counted_late w x zero q r ok o i e =
     let c = cut_dn w.dn w.dn_next x ok.0 ok.1 i.track in
-    let h = k-spare-away ff ft af ag Fits c.0 (answer_at w x) (drop (suc x) w.dn) o c.1 in absurd (omega arith)
+    let h = k_spare_away ff ft af ag Fits c.0 (answer_at w x) (drop (suc x) w.dn) o c.1 in absurd (omega arith)
 counted_late w x (suc spare) q r ok o i e =
     let c = cut_dn w.dn w.dn_next x ok.0 ok.1 i.track in
-    record { counts = record { up_within = i.up_within; dn_within = ok.1; sends = i.sends; track = k-late-away ff ft af ag Fits c.0 (answer_at w x) (drop (suc x) w.dn) (lowered w.host.spare) o (lowered_once w.host.spare) c.1 }; up = λ e. e }
+    record { counts = record { up_within = i.up_within; dn_within = ok.1; sends = i.sends; track = k_late_away ff ft af ag Fits c.0 (answer_at w x) (drop (suc x) w.dn) (lowered w.host.spare) o (lowered_once w.host.spare) c.1 }; up = λ e. e }
 
 counted_opened : (w : World) (x r : ℕ) → Ahead w.dn_next w.dn x → Counted (at w (opening r)) → (answer_at w x).reset ≡ true → (answer_at w x).toggle ≡ w.host.generation → Stands (opening r) (heard_by (at w (opening r)) x opened)
 counted_opened w x r ok i fl tg =
     let c = cut_dn w.dn w.dn_next x ok.0 ok.1 i.track in
-    record { counts = record { up_within = i.up_within; dn_within = ok.1; sends = tt; track = k-opened ff ft af ag Fits c.0 (answer_at w x) (drop (suc x) w.dn) (min (pred w.host.resets) last_spare) fl tg (omega arith) (omega arith) c.1 }; up = λ e. cc }
+    record { counts = record { up_within = i.up_within; dn_within = ok.1; sends = tt; track = k_opened ff ft af ag Fits c.0 (answer_at w x) (drop (suc x) w.dn) (min (pred w.host.resets) last_spare) fl tg (omega arith) (omega arith) c.1 }; up = λ e. cc }
 
 -- an answer in sequence is taken, or finds no room
 module _ (w : World) (x : ℕ) (q : Request) (r : ℕ) (ok : Ahead w.dn_next w.dn x) (i : Counted (at w (on_its_way q r))) (fl : (answer_at w x).reset ≡ false) (tg : (answer_at w x).toggle ≡ q.toggle) where
   settles : Tr w.host.setting w.tries Stage.idle w.host.generation (answer_at w x).toggle r w.host.resets (ear w.tnc.ready w.tnc.last w.tnc.held) (drop w.up_next w.up) (drop (suc x) w.dn)
-  settles = let c = cut_dn w.dn w.dn_next x ok.0 ok.1 i.track in k-taken ff ft af ag Fits c.0 (answer_at w x) (drop (suc x) w.dn) fl tg c.1
+  settles = let c = cut_dn w.dn w.dn_next x ok.0 ok.1 i.track in k_taken ff ft af ag Fits c.0 (answer_at w x) (drop (suc x) w.dn) fl tg c.1
 
   fits : Fits q (answer_at w x)
-  fits = let c = cut_dn w.dn w.dn_next x ok.0 ok.1 i.track in k-fits ff ft af ag Fits c.0 (answer_at w x) (drop (suc x) w.dn) fl tg c.1
+  fits = let c = cut_dn w.dn w.dn_next x ok.0 ok.1 i.track in k_fits ff ft af ag Fits c.0 (answer_at w x) (drop (suc x) w.dn) fl tg c.1
 
-  counted-taken : (rule : HostRule) → in_turn rule ≡ true → Stands (on_its_way q r) (heard_by (at w (on_its_way q r)) x rule)
-  counted-taken stale e = absurd (never e)
-  counted-taken spare_used e = absurd (never e)
-  counted-taken opened e = absurd (never e)
-  counted-taken confirmed e = record { counts = record { up_within = i.up_within; dn_within = ok.1; sends = tt; track = settles }; up = λ h. cc }
-  counted-taken block_refused e = record { counts = record { up_within = i.up_within; dn_within = ok.1; sends = tt; track = settles }; up = λ h. cc }
-  counted-taken nothing_there e = record { counts = record { up_within = i.up_within; dn_within = ok.1; sends = tt; track = settles }; up = λ h. cc }
-  counted-taken received e = record { counts = record { up_within = i.up_within; dn_within = ok.1; sends = tt; track = settles }; up = λ h. cc }
-  counted-taken listed e = record { counts = record { up_within = i.up_within; dn_within = ok.1; sends = tt; track = settles }; up = λ h. cc }
-  counted-taken no_room e = counted_unheard (at w (on_its_way q r)) x ok i
-  counted-taken (falls cause) e = absurd (never e)
+  counted_taken : (rule : HostRule) → in_turn rule ≡ true → Stands (on_its_way q r) (heard_by (at w (on_its_way q r)) x rule)
+  counted_taken stale e = absurd (never e)
+  counted_taken spare_used e = absurd (never e)
+  counted_taken opened e = absurd (never e)
+  counted_taken confirmed e = record { counts = record { up_within = i.up_within; dn_within = ok.1; sends = tt; track = settles }; up = λ h. cc }
+  counted_taken block_refused e = record { counts = record { up_within = i.up_within; dn_within = ok.1; sends = tt; track = settles }; up = λ h. cc }
+  counted_taken nothing_there e = record { counts = record { up_within = i.up_within; dn_within = ok.1; sends = tt; track = settles }; up = λ h. cc }
+  counted_taken received e = record { counts = record { up_within = i.up_within; dn_within = ok.1; sends = tt; track = settles }; up = λ h. cc }
+  counted_taken listed e = record { counts = record { up_within = i.up_within; dn_within = ok.1; sends = tt; track = settles }; up = λ h. cc }
+  counted_taken no_room e = counted_unheard (at w (on_its_way q r)) x ok i
+  counted_taken (falls cause) e = absurd (never e)
 
 pub counted_hear : (w : World) (s : State) (x : ℕ) → Ahead w.dn_next w.dn x → Counted (at w s) → Stands s (host_heard (answer_at w x) x (at w s))
 counted_hear w fresh x ok i = counted_unheard (at w fresh) x ok i
@@ -242,7 +242,7 @@ counted_hear w (on_its_way q r) x ok i = go (answer_at w x).reset (beq (answer_a
 
     go : (a b : Bool) → (answer_at w x).reset ≡ a → beq (answer_at w x).toggle q.toggle ≡ b → Stands (on_its_way q r) (heard_by (at w (on_its_way q r)) x (cond a (out_of_sequence_rule w.host.spare) (cond b rule (out_of_sequence_rule w.host.spare))))
     go true b e h = counted_late w x w.host.spare q r ok (ap (λ (y : Bool). one (miss q.toggle y (answer_at w x).toggle)) e) i refl
-    go false true e h = counted-taken w x q r ok i e (same _ _ h) rule (fits w x q r ok i e (same _ _ h) i.sends _)
+    go false true e h = counted_taken w x q r ok i e (same _ _ h) rule (fits w x q r ok i e (same _ _ h) i.sends _)
     go false false e h = counted_late w x w.host.spare q r ok (miss_on q.toggle (answer_at w x).reset (answer_at w x).toggle h) i refl
 counted_hear w down x ok i = counted_unheard (at w down) x ok i
 
@@ -283,34 +283,34 @@ answer_fits q place out g s room = rw (eq-eqb q.channel q.channel refl) (reply_f
 counted_silent : (w : World) (x : ℕ) → Ahead w.up_next w.up x → Counted w → Counted (told_by w x flagged)
 counted_silent w x ok i =
     let c = cut_up w.up w.up_next x ok.0 ok.1 i.track in
-    record { up_within = ok.1; dn_within = i.dn_within; sends = i.sends; track = k-silent ff ft af ag Fits c.0 (request_at w x) (drop (suc x) w.up) c.1 }
+    record { up_within = ok.1; dn_within = i.dn_within; sends = i.sends; track = k_silent ff ft af ag Fits c.0 (request_at w x) (drop (suc x) w.up) c.1 }
 
 counted_reset : (w : World) (x : ℕ) → Ahead w.up_next w.up x → Counted w → (request_at w x).reset ≡ true → Counted (told_by w x resets)
 counted_reset w x ok i fl =
     let c = cut_up w.up w.up_next x ok.0 ok.1 i.track in
     let a : Answer = reset_answer (request_at w x) w.tnc w.tnc_out in
-    record { up_within = ok.1; dn_within = longer w.dn_next w.dn _ i.dn_within; sends = i.sends; track = rw (drop-append-le w.dn_next w.dn (a ∷ []) i.dn_within) (k-reset ff ft af ag Fits c.0 (request_at w x) (drop (suc x) w.up) a fl fl refl c.1) }
+    record { up_within = ok.1; dn_within = longer w.dn_next w.dn _ i.dn_within; sends = i.sends; track = rw (drop-append-le w.dn_next w.dn (a ∷ []) i.dn_within) (k_reset ff ft af ag Fits c.0 (request_at w x) (drop (suc x) w.up) a fl fl refl c.1) }
 
 counted_again : (w : World) (x : ℕ) → Ahead w.up_next w.up x → Counted w → (request_at w x).reset ≡ false → w.tnc.ready ≡ true → (request_at w x).toggle ≡ w.tnc.last → Counted (told_by w x again)
 counted_again w x ok i fl rd tg =
     let k = rw rd at i.track in
     let c = cut_up w.up w.up_next x ok.0 ok.1 k in
-    record { up_within = ok.1; dn_within = longer w.dn_next w.dn _ i.dn_within; sends = i.sends; track = rw (rd, drop-append-le w.dn_next w.dn (w.tnc.held ∷ []) i.dn_within) (k-held ff ft af ag Fits c.0 (request_at w x) (drop (suc x) w.up) fl tg c.1) }
+    record { up_within = ok.1; dn_within = longer w.dn_next w.dn _ i.dn_within; sends = i.sends; track = rw (rd, drop-append-le w.dn_next w.dn (w.tnc.held ∷ []) i.dn_within) (k_held ff ft af ag Fits c.0 (request_at w x) (drop (suc x) w.up) fl tg c.1) }
 
 module _ (good : (m : Meaning) → is_good (list_for m) ≡ true) where
-  counted-accept : (w : World) (x : ℕ) → Ahead w.up_next w.up x → Counted w → (request_at w x).reset ≡ false → w.tnc.ready ≡ true → ((request_at w x).toggle ≡ w.tnc.last → ⊥) → Counted (told_by w x accepts)
-  counted-accept w x ok i fl rd tg =
+  counted_accept : (w : World) (x : ℕ) → Ahead w.up_next w.up x → Counted w → (request_at w x).reset ≡ false → w.tnc.ready ≡ true → ((request_at w x).toggle ≡ w.tnc.last → ⊥) → Counted (told_by w x accepts)
+  counted_accept w x ok i fl rd tg =
       let k = rw rd at i.track in
       let c = cut_up w.up w.up_next x ok.0 ok.1 k in
       let a : Answer = accepted_answer (request_at w x) w.tnc w.tnc_out w.tnc_in in
-      record { up_within = ok.1; dn_within = longer w.dn_next w.dn _ i.dn_within; sends = i.sends; track = rw (drop-append-le w.dn_next w.dn (a ∷ []) i.dn_within) (k-accept ff ft af ag Fits c.0 (request_at w x) (drop (suc x) w.up) a fl tg fl refl (answer_fits (request_at w x) _ _ (good (out_after accepts w.tnc w.tnc_out))) c.1) }
+      record { up_within = ok.1; dn_within = longer w.dn_next w.dn _ i.dn_within; sends = i.sends; track = rw (drop-append-le w.dn_next w.dn (a ∷ []) i.dn_within) (k_accept ff ft af ag Fits c.0 (request_at w x) (drop (suc x) w.up) a fl tg fl refl (answer_fits (request_at w x) _ _ (good (out_after accepts w.tnc w.tnc_out))) c.1) }
 
-  pub counted-tnc : (w : World) (x : ℕ) → Ahead w.up_next w.up x → Counted w → Counted (tnc_heard (request_at w x) x w)
-  counted-tnc w x ok i = go (request_at w x).reset (is_general_poll (request_at w x)) w.tnc.ready (beq (request_at w x).toggle w.tnc.last) refl refl refl
+  pub counted_tnc : (w : World) (x : ℕ) → Ahead w.up_next w.up x → Counted w → Counted (tnc_heard (request_at w x) x w)
+  counted_tnc w x ok i = go (request_at w x).reset (is_general_poll (request_at w x)) w.tnc.ready (beq (request_at w x).toggle w.tnc.last) refl refl refl
     where
       go : (a b c d : Bool) → (request_at w x).reset ≡ a → w.tnc.ready ≡ c → beq (request_at w x).toggle w.tnc.last ≡ d → Counted (told_by w x (cond a (cond b resets flagged) (cond c (cond d again accepts) early)))
       go true true c d e g h = counted_reset w x ok i e
       go true false c d e g h = counted_silent w x ok i
       go false b false d e g h = counted_silent w x ok i
       go false b true true e g h = counted_again w x ok i e g (same _ _ h)
-      go false b true false e g h = counted-accept w x ok i e g (unlike _ _ h)
+      go false b true false e g h = counted_accept w x ok i e g (unlike _ _ h)

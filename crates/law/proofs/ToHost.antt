@@ -60,21 +60,21 @@ not_idle (on_its_way f r) n m j book last pend lt sh i = i
 not_idle down n m j book last pend lt sh i = i
 
 module _ (c : ℕ) {n m : ℕ} {book : ℕ → Request} {y : Cargo} {s : List Block} {x : List Named} {out : List Block} {cnt sub : ℕ} {d : List Block} where
-  pub dn-submit : {st : State} (b : Block) → sub < last_number → ToHost c st n m book y s x out cnt sub d → ToHost c st n m book y (s ++ b ∷ []) x (out ++ b ∷ []) cnt (suc sub) d
-  dn-submit b lt u = record { gone = u.gone; books = books_submit b lt u.books; offered = (u.offered.0 ++ b ∷ [], rw (u.offered.1, append_assoc)); unsure = u.unsure; passed = u.passed; at_idle = u.at_idle; at_away = u.at_away }
+  pub dn_submit : {st : State} (b : Block) → sub < last_number → ToHost c st n m book y s x out cnt sub d → ToHost c st n m book y (s ++ b ∷ []) x (out ++ b ∷ []) cnt (suc sub) d
+  dn_submit b lt u = record { gone = u.gone; books = books_submit b lt u.books; offered = (u.offered.0 ++ b ∷ [], rw (u.offered.1, append_assoc)); unsure = u.unsure; passed = u.passed; at_idle = u.at_idle; at_away = u.at_away }
 
   -- the host goes to a state that is neither idle nor on its way
-  pub dn-fall : {st : State} → ToHost c st n m book y s x out cnt sub d → ToHost c down n m book y s x out cnt sub d
-  dn-fall u = record { gone = u.gone; books = u.books; offered = u.offered; unsure = u.unsure; passed = u.passed; at_idle = λ a. absurd a; at_away = λ a. absurd a }
+  pub dn_fall : {st : State} → ToHost c st n m book y s x out cnt sub d → ToHost c down n m book y s x out cnt sub d
+  dn_fall u = record { gone = u.gone; books = u.books; offered = u.offered; unsure = u.unsure; passed = u.passed; at_idle = λ a. absurd a; at_away = λ a. absurd a }
 
-  pub dn-open-old : {st : State} (r : ℕ) → ToHost c st n m book y s x out cnt sub d → ToHost c (opening r) n m book y s x out cnt sub d
-  dn-open-old r u = record { gone = u.gone; books = u.books; offered = u.offered; unsure = u.unsure; passed = u.passed; at_idle = λ a. absurd a; at_away = λ a. absurd a }
+  pub dn_open_old : {st : State} (r : ℕ) → ToHost c st n m book y s x out cnt sub d → ToHost c (opening r) n m book y s x out cnt sub d
+  dn_open_old r u = record { gone = u.gone; books = u.books; offered = u.offered; unsure = u.unsure; passed = u.passed; at_idle = λ a. absurd a; at_away = λ a. absurd a }
 
-  pub dn-again : (f : Request) (r r' : ℕ) → ToHost c (on_its_way f r) n m book y s x out cnt sub d → ToHost c (on_its_way f r') n m book y s x out cnt sub d
-  dn-again f r r' u = record { gone = u.gone; books = u.books; offered = u.offered; unsure = u.unsure; passed = u.passed; at_idle = λ a. absurd a; at_away = u.at_away }
+  pub dn_again : (f : Request) (r r' : ℕ) → ToHost c (on_its_way f r) n m book y s x out cnt sub d → ToHost c (on_its_way f r') n m book y s x out cnt sub d
+  dn_again f r r' u = record { gone = u.gone; books = u.books; offered = u.offered; unsure = u.unsure; passed = u.passed; at_idle = λ a. absurd a; at_away = u.at_away }
 
-  pub dn-open-new : {st : State} (f : Request) (r : ℕ) → m ≤ n → f.reset ≡ true → ToHost c st n m book y s x out cnt sub d → ToHost c (opening r) (suc n) m (book' book n f) y s x out cnt sub d
-  dn-open-new f r mn fl u = record {
+  pub dn_open_new : {st : State} (f : Request) (r : ℕ) → m ≤ n → f.reset ≡ true → ToHost c st n m book y s x out cnt sub d → ToHost c (opening r) (suc n) m (book' book n f) y s x out cnt sub d
+  dn_open_new f r mn fl u = record {
     gone = u.gone;
     books = u.books;
     offered = u.offered;
@@ -84,26 +84,26 @@ module _ (c : ℕ) {n m : ℕ} {book : ℕ → Request} {y : Cargo} {s : List Bl
     at_away = λ a. absurd a;
   }
 
-  pub dn-step : (f : Request) → m ≡ n → ToHost c idle n m book y s x out cnt sub d → ToHost c (on_its_way f 0) (suc n) m (book' book n f) y s x out cnt sub d
-  dn-step f mn u = record { gone = u.gone; books = u.books; offered = u.offered; unsure = u.unsure; passed = λ a e. u.at_idle tt; at_idle = λ a. absurd a; at_away = λ a e. absurd (omega arith) }
+  pub dn_step : (f : Request) → m ≡ n → ToHost c idle n m book y s x out cnt sub d → ToHost c (on_its_way f 0) (suc n) m (book' book n f) y s x out cnt sub d
+  dn_step f mn u = record { gone = u.gone; books = u.books; offered = u.offered; unsure = u.unsure; passed = λ a e. u.at_idle tt; at_idle = λ a. absurd a; at_away = λ a e. absurd (omega arith) }
 
   -- the link opens: the answer to a reset has no block
-  pub dn-opened : {st : State} → y ≡ empty → m ≡ n → ToHost c st n m book y s x out cnt sub d → ToHost c idle n m book y s x out cnt sub d
-  dn-opened e mn u = record { gone = u.gone; books = u.books; offered = u.offered; unsure = u.unsure; passed = λ a. absurd (omega arith); at_idle = λ a. got_empty y u.gone d e (kept_of y d u.gone e u.unsure); at_away = λ a. absurd a }
+  pub dn_opened : {st : State} → y ≡ empty → m ≡ n → ToHost c st n m book y s x out cnt sub d → ToHost c idle n m book y s x out cnt sub d
+  dn_opened e mn u = record { gone = u.gone; books = u.books; offered = u.offered; unsure = u.unsure; passed = λ a. absurd (omega arith); at_idle = λ a. got_empty y u.gone d e (kept_of y d u.gone e u.unsure); at_away = λ a. absurd a }
 
   -- the host takes the held answer
-  pub dn-taken : (f : Request) (r : ℕ) (d' : List Block) → m ≡ n → d' ≡ d ++ block_in y → ToHost c (on_its_way f r) n m book y s x out cnt sub d → ToHost c idle n m book y s x out cnt sub d'
-  dn-taken f r d' mn e u = record { gone = u.gone; books = u.books; offered = u.offered; unsure = inr (d, u.at_away tt mn, e); passed = λ a. absurd (omega arith); at_idle = λ a. (d, u.at_away tt mn, e); at_away = λ a. absurd a }
+  pub dn_taken : (f : Request) (r : ℕ) (d' : List Block) → m ≡ n → d' ≡ d ++ block_in y → ToHost c (on_its_way f r) n m book y s x out cnt sub d → ToHost c idle n m book y s x out cnt sub d'
+  dn_taken f r d' mn e u = record { gone = u.gone; books = u.books; offered = u.offered; unsure = inr (d, u.at_away tt mn, e); passed = λ a. absurd (omega arith); at_idle = λ a. (d, u.at_away tt mn, e); at_away = λ a. absurd a }
 
   -- the TNC hears a reset: the held block is doubtful
-  pub dn-resets : (st : State) (k : ℕ) (y' : Cargo) → y' ≡ empty → ToHost c st n m book y s x out cnt sub d → ToHost c st n k book y' s (name_c doubtful y cnt x) (drop_c y out) (count_c y cnt) sub d
-  dn-resets st k y' e u =
+  pub dn_resets : (st : State) (k : ℕ) (y' : Cargo) → y' ≡ empty → ToHost c st n m book y s x out cnt sub d → ToHost c st n k book y' s (name_c doubtful y cnt x) (drop_c y out) (count_c y cnt) sub d
+  dn_resets st k y' e u =
       let k' = doubt_all y d u.gone u.unsure in
       record { gone = u.gone ++ doubt_in y; books = books_doubt y u.offered.0 u.offered.1 u.books; offered = (drop_c y out, rw e); unsure = inl k'; passed = λ a b. got_empty y' _ d e k'; at_idle = λ a. got_empty y' _ d e k'; at_away = λ a b. k' }
 
   -- the TNC accepts: the held block is confirmed
-  pub dn-accepts : {j : ℕ} {pend generation last ready tlast : Bool} {held : Answer} {up : List Request} {up_at : ℕ} {dn : List Answer} {dn_at : ℕ} (st : State) (y' : Cargo) → Sync n m j book pend st generation last ready tlast held up up_at dn dn_at → suc m ≤ n → (book (suc m)).reset ≡ false → (rest : List Block) × (drop_c y out ≡ block_in y' ++ rest) → ToHost c st n m book y s x out cnt sub d → ToHost c st n (suc m) book y' s (name_c confirmed y cnt x) (drop_c y out) (count_c y cnt) sub d
-  dn-accepts {j} {pend} {generation} {last} st y' z lt fl o u =
+  pub dn_accepts : {j : ℕ} {pend generation last ready tlast : Bool} {held : Answer} {up : List Request} {up_at : ℕ} {dn : List Answer} {dn_at : ℕ} (st : State) (y' : Cargo) → Sync n m j book pend st generation last ready tlast held up up_at dn dn_at → suc m ≤ n → (book (suc m)).reset ≡ false → (rest : List Block) × (drop_c y out ≡ block_in y' ++ rest) → ToHost c st n m book y s x out cnt sub d → ToHost c st n (suc m) book y' s (name_c confirmed y cnt x) (drop_c y out) (count_c y cnt) sub d
+  dn_accepts {j} {pend} {generation} {last} st y' z lt fl o u =
       let t = u.passed lt fl in
       let k' = settled_by y u.gone t.0 d t.1 t.2 in
       record { gone = u.gone ++ sure_in y; books = books_confirmed y u.offered.0 u.offered.1 u.books; offered = o; unsure = inl k'; passed = λ a b. absurd (omega (arith, z.one (suc (suc m)) (omega arith) a b)); at_idle = λ a. absurd (not_idle st n m j book last pend lt z.shape a); at_away = λ a b. k' }

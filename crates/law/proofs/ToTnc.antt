@@ -8,7 +8,7 @@ use Rattle.ends.specs.Limits.{last_number}
 use Rattle.ends.specs.Frames.{Request, Reply, success, message, failure, block, other, Answer, Cargo, empty, holds, cargo_of}
 use Rattle.ends.specs.Host.{State, fresh, opening, idle, on_its_way, down, Pick, poll_after_refusal, channel_poll, send_block_of, general_poll, or_else, lowest_below, pick, request_for, aboard, aboard_on}
 use Rattle.law.specs.Runs.{Named, confirmed, doubtful}
-use Rattle.law.proofs.Line.{line-le}
+use Rattle.law.proofs.Line.{line_le}
 use Rattle.law.proofs.Sync.{Sync, Shape, never, book', old, new}
 use Rattle.law.proofs.Books.{Gone, Kept, none', block_in, sure_in, doubt_in, carried, carried_empty, Books, drop_c, count_c, name_c, books_doubt, books_confirmed, books_submit, Got, doubted, settled_by, unused}
 
@@ -58,8 +58,8 @@ if_good_doubted true y g d t = doubted y g t.0 d t.1 t.2
 if_good_doubted false y g d t = unused y g d (rw (t.2, append-nil) t.1)
 
 module _ (c n m : ℕ) (book : ℕ → Request) (d : List Block) where
-  rest-new : (f : Request) (gone : List Gone) → m ≤ n → f.reset ≡ true → Rest c n m book gone d → Rest c (suc n) m (book' book n f) gone d
-  rest-new f gone mn fl r =
+  rest_new : (f : Request) (gone : List Gone) → m ≤ n → f.reset ≡ true → Rest c n m book gone d → Rest c (suc n) m (book' book n f) gone d
+  rest_new f gone mn fl r =
       record {
         flies = λ a e. elim (ℕ_discrete m n) [ yes q ↦ absurd (never (sym e ∙ ap (λ (y : ℕ). (book' book n f (suc y)).reset) q ∙ ap (λ (y : Request). y.reset) (new book n f) ∙ fl)) | no q ↦ rw (old book n f (suc m) (omega arith)) (r.flies (omega arith) (rw (old book n f (suc m) (omega arith)) at e)) ];
         rests = λ a. absurd (omega arith);
@@ -69,15 +69,15 @@ module _ (c n m : ℕ) (book : ℕ → Request) (d : List Block) where
   rested : (gone : List Gone) → m ≡ n → Kept gone d → Rest c n m book gone d
   rested gone mn k = record { flies = λ a. absurd (omega arith); rests = λ a. k; skips = λ a. absurd (omega arith) }
 
-  pub settled-any : (gone : List Gone) → Rest c n m book gone d → suc m ≤ n → Kept gone d
-  settled-any gone r lt = go (book (suc m)).reset refl
+  pub settled_any : (gone : List Gone) → Rest c n m book gone d → suc m ≤ n → Kept gone d
+  settled_any gone r lt = go (book (suc m)).reset refl
     where
       go : (b : Bool) → (book (suc m)).reset ≡ b → Kept gone d
       go true e = r.skips lt e
       go false e = let t = r.flies lt e in rw t.1 (unused (carries c (book (suc m))) t.0 d t.2)
 
-  rest-resets : (k : ℕ) (gone : List Gone) → m ≤ n → m ≤ k → ((i : ℕ) → 1 ≤ i → i ≤ n → (book i).reset ≡ false → i ≤ suc m) → Rest c n m book gone d → Rest c n k book gone d
-  rest-resets k gone mn mk one r =
+  rest_resets : (k : ℕ) (gone : List Gone) → m ≤ n → m ≤ k → ((i : ℕ) → 1 ≤ i → i ≤ n → (book i).reset ≡ false → i ≤ suc m) → Rest c n m book gone d → Rest c n k book gone d
+  rest_resets k gone mn mk one r =
       record {
         flies = λ lt v. let e : k ≡ m = omega (arith, one (suc k) (omega arith) lt v) in rw e (r.flies (omega arith) (rw e at v));
         rests = λ le. elim (ℕ_discrete k m) [ yes e ↦ r.rests (omega arith) | no h ↦ elim (ℕ_discrete m n) [ yes e ↦ r.rests (omega arith) | no g ↦ go (omega arith) ] ];
@@ -85,79 +85,79 @@ module _ (c n m : ℕ) (book : ℕ → Request) (d : List Block) where
       }
     where
       go : suc m ≤ n → Kept gone d
-      go = settled-any gone r
+      go = settled_any gone r
 
   -- the TNC accepts transmission m + 1
-  rest-accepts : (good' : Bool) (gone : List Gone) → suc m ≤ n → (book (suc m)).reset ≡ false → ((i : ℕ) → 1 ≤ i → i ≤ n → (book i).reset ≡ false → i ≤ suc m) → Rest c n m book gone d → Rest c n (suc m) book gone (d ++ block_in (if_good good' (carries c (book (suc m)))))
-  rest-accepts g' gone lt fl one r =
+  rest_accepts : (good' : Bool) (gone : List Gone) → suc m ≤ n → (book (suc m)).reset ≡ false → ((i : ℕ) → 1 ≤ i → i ≤ n → (book i).reset ≡ false → i ≤ suc m) → Rest c n m book gone d → Rest c n (suc m) book gone (d ++ block_in (if_good good' (carries c (book (suc m)))))
+  rest_accepts g' gone lt fl one r =
       let t = r.flies lt fl in
       let done : Kept gone (d ++ block_in (if_good g' (carries c (book (suc m))))) = rw t.1 (if_good_doubted g' (carries c (book (suc m))) t.0 _ (d, t.2, refl)) in
       record { flies = λ l2 v. absurd (omega (arith, one (suc (suc m)) (omega arith) l2 v)); rests = λ le. done; skips = λ l2 v. done }
 
   module _ (good : Bool) (out : List Block) where
-    acct-more : (st : State) (gone : List Gone) (b : Block) → Account c st n m book good gone d out → Account c st n m book good gone d (out ++ b ∷ [])
-    acct-more fresh gone b a = a
-    acct-more (opening r) gone b a = a
-    acct-more idle gone b a = a
-    acct-more (on_its_way f r) gone b a = record { got = a.got; lacks = a.lacks; waits = (a.waits.0 ++ b ∷ [], rw (a.waits.1, append_assoc)) }
-    acct-more down gone b a = a
+    acct_more : (st : State) (gone : List Gone) (b : Block) → Account c st n m book good gone d out → Account c st n m book good gone d (out ++ b ∷ [])
+    acct_more fresh gone b a = a
+    acct_more (opening r) gone b a = a
+    acct_more idle gone b a = a
+    acct_more (on_its_way f r) gone b a = record { got = a.got; lacks = a.lacks; waits = (a.waits.0 ++ b ∷ [], rw (a.waits.1, append_assoc)) }
+    acct_more down gone b a = a
 
-    acct-resets : (st : State) (last pend : Bool) (j k : ℕ) (good' : Bool) (gone : List Gone) → m ≤ n → j ≤ m → m ≤ k → k ≤ n → (book k).reset ≡ true → ((i : ℕ) → 1 ≤ i → i ≤ n → (book i).reset ≡ false → i ≤ suc m) → Shape st last pend n m j book → Account c st n m book good gone d out → Account c st n k book good' gone d out
-    acct-resets fresh last pend j k g' gone mn jm mk kn fl one sh a = rest-resets k gone mn mk one a
-    acct-resets (opening r) last pend j k g' gone mn jm mk kn fl one sh a = rest-resets k gone mn mk one a
-    acct-resets idle last pend j k g' gone mn jm mk kn fl one sh a = rest-resets k gone mn mk one a
-    acct-resets (on_its_way f r) last pend j k g' gone mn jm mk kn fl one sh a =
+    acct_resets : (st : State) (last pend : Bool) (j k : ℕ) (good' : Bool) (gone : List Gone) → m ≤ n → j ≤ m → m ≤ k → k ≤ n → (book k).reset ≡ true → ((i : ℕ) → 1 ≤ i → i ≤ n → (book i).reset ≡ false → i ≤ suc m) → Shape st last pend n m j book → Account c st n m book good gone d out → Account c st n k book good' gone d out
+    acct_resets fresh last pend j k g' gone mn jm mk kn fl one sh a = rest_resets k gone mn mk one a
+    acct_resets (opening r) last pend j k g' gone mn jm mk kn fl one sh a = rest_resets k gone mn mk one a
+    acct_resets idle last pend j k g' gone mn jm mk kn fl one sh a = rest_resets k gone mn mk one a
+    acct_resets (on_its_way f r) last pend j k g' gone mn jm mk kn fl one sh a =
         let ne : k ≡ n → ⊥ = λ e. never (sym sh.3 ∙ ap (λ (y : Request). y.reset) (sym sh.1) ∙ ap (λ (y : ℕ). (book y).reset) (sym e) ∙ fl) in
         record { got = λ e. absurd (ne e); lacks = λ e. a.lacks (omega (arith, sh.0)); waits = a.waits }
-    acct-resets down last pend j k g' gone mn jm mk kn fl one sh a = rest-resets k gone mn mk one a
+    acct_resets down last pend j k g' gone mn jm mk kn fl one sh a = rest_resets k gone mn mk one a
 
-    acct-accepts : (st : State) (last pend : Bool) (j : ℕ) (good' : Bool) (gone : List Gone) → j ≤ m → suc m ≤ n → (book (suc m)).reset ≡ false → ((i : ℕ) → 1 ≤ i → i ≤ n → (book i).reset ≡ false → i ≤ suc m) → Shape st last pend n m j book → Account c st n m book good gone d out → Account c st n (suc m) book good' gone (d ++ block_in (if_good good' (carries c (book (suc m))))) out
-    acct-accepts fresh last pend j g' gone jm lt fl one sh a = rest-accepts g' gone lt fl one a
-    acct-accepts (opening r) last pend j g' gone jm lt fl one sh a = rest-accepts g' gone lt fl one a
-    acct-accepts idle last pend j g' gone jm lt fl one sh a = rest-accepts g' gone lt fl one a
-    acct-accepts (on_its_way f r) last pend j g' gone jm lt fl one sh a =
+    acct_accepts : (st : State) (last pend : Bool) (j : ℕ) (good' : Bool) (gone : List Gone) → j ≤ m → suc m ≤ n → (book (suc m)).reset ≡ false → ((i : ℕ) → 1 ≤ i → i ≤ n → (book i).reset ≡ false → i ≤ suc m) → Shape st last pend n m j book → Account c st n m book good gone d out → Account c st n (suc m) book good' gone (d ++ block_in (if_good good' (carries c (book (suc m))))) out
+    acct_accepts fresh last pend j g' gone jm lt fl one sh a = rest_accepts g' gone lt fl one a
+    acct_accepts (opening r) last pend j g' gone jm lt fl one sh a = rest_accepts g' gone lt fl one a
+    acct_accepts idle last pend j g' gone jm lt fl one sh a = rest_accepts g' gone lt fl one a
+    acct_accepts (on_its_way f r) last pend j g' gone jm lt fl one sh a =
         let sm : suc m ≡ n = omega (arith, sh.0) in
         record { got = λ e. (d, a.lacks sm, rw (ap book sm, sh.1)); lacks = λ e. absurd (omega arith); waits = a.waits }
-    acct-accepts down last pend j g' gone jm lt fl one sh a = rest-accepts g' gone lt fl one a
+    acct_accepts down last pend j g' gone jm lt fl one sh a = rest_accepts g' gone lt fl one a
 
 module _ (c : ℕ) {n m : ℕ} {book : ℕ → Request} {good : Bool} {s : List Block} {x : List Named} {out : List Block} {cnt sub : ℕ} {d : List Block} where
-  pub up-submit : (st : State) (b : Block) → sub < last_number → ToTnc c st n m book good s x out cnt sub d → ToTnc c st n m book good (s ++ b ∷ []) x (out ++ b ∷ []) cnt (suc sub) d
-  up-submit st b lt u = record { gone = u.gone; books = books_submit b lt u.books; acct = acct-more c n m book d good out st u.gone b u.acct }
+  pub up_submit : (st : State) (b : Block) → sub < last_number → ToTnc c st n m book good s x out cnt sub d → ToTnc c st n m book good (s ++ b ∷ []) x (out ++ b ∷ []) cnt (suc sub) d
+  up_submit st b lt u = record { gone = u.gone; books = books_submit b lt u.books; acct = acct_more c n m book d good out st u.gone b u.acct }
 
-  no-cargo : (c' : ℕ) → ToTnc c down n m book good s x out cnt sub d → ToTnc c down n m book good s (name_c doubtful (carried c c' empty) cnt x) (drop_c (carried c c' empty) out) (count_c (carried c c' empty) cnt) sub d
-  no-cargo c' u = subst (λ (y : Cargo). ToTnc c down n m book good s (name_c doubtful y cnt x) (drop_c y out) (count_c y cnt) sub d) (sym (carried_empty c c' empty refl)) u
+  no_cargo : (c' : ℕ) → ToTnc c down n m book good s x out cnt sub d → ToTnc c down n m book good s (name_c doubtful (carried c c' empty) cnt x) (drop_c (carried c c' empty) out) (count_c (carried c c' empty) cnt) sub d
+  no_cargo c' u = subst (λ (y : Cargo). ToTnc c down n m book good s (name_c doubtful y cnt x) (drop_c y out) (count_c y cnt) sub d) (sym (carried_empty c c' empty refl)) u
 
-  pub up-open-new : (f : Request) (r : ℕ) → m ≤ n → f.reset ≡ true → ToTnc c down n m book good s x out cnt sub d → ToTnc c (opening r) (suc n) m (book' book n f) good s x out cnt sub d
-  up-open-new f r mn fl u = record { gone = u.gone; books = u.books; acct = rest-new c n m book d f u.gone mn fl u.acct }
+  pub up_open_new : (f : Request) (r : ℕ) → m ≤ n → f.reset ≡ true → ToTnc c down n m book good s x out cnt sub d → ToTnc c (opening r) (suc n) m (book' book n f) good s x out cnt sub d
+  up_open_new f r mn fl u = record { gone = u.gone; books = u.books; acct = rest_new c n m book d f u.gone mn fl u.acct }
 
   -- step
   pub up_step : (f : Request) → m ≡ n → (rest : List Block) × (out ≡ block_in (carries c f) ++ rest) → ToTnc c idle n m book good s x out cnt sub d → ToTnc c (on_its_way f 0) (suc n) m (book' book n f) good s x out cnt sub d
   up_step f mn w u = record { gone = u.gone; books = u.books; acct = record { got = λ e. absurd (omega arith); lacks = λ e. u.acct.rests (omega arith); waits = w } }
 
   -- an answer taken: the block is confirmed, or nothing of it came, or there was none
-  pub up-confirmed : (f : Request) (r : ℕ) → m ≡ n → good ≡ true → ToTnc c (on_its_way f r) n m book good s x out cnt sub d → ToTnc c idle n m book good s (name_c confirmed (carries c f) cnt x) (drop_c (carries c f) out) (count_c (carries c f) cnt) sub d
-  up-confirmed f r mn g u =
+  pub up_confirmed : (f : Request) (r : ℕ) → m ≡ n → good ≡ true → ToTnc c (on_its_way f r) n m book good s x out cnt sub d → ToTnc c idle n m book good s (name_c confirmed (carries c f) cnt x) (drop_c (carries c f) out) (count_c (carries c f) cnt) sub d
+  up_confirmed f r mn g u =
       let a = u.acct in
       let t : Got (carries c f) u.gone d = subst (λ (z : Bool). Got (if_good z (carries c f)) u.gone d) g (a.got mn) in
       record { gone = u.gone ++ sure_in (carries c f); books = books_confirmed (carries c f) a.waits.0 a.waits.1 u.books; acct = rested c n m book d _ mn (settled_by (carries c f) u.gone t.0 d t.1 t.2) }
 
-  pub up-stays : (f : Request) (r : ℕ) → m ≡ n → if_good good (carries c f) ≡ empty → ToTnc c (on_its_way f r) n m book good s x out cnt sub d → ToTnc c idle n m book good s x out cnt sub d
-  up-stays f r mn g u =
+  pub up_stays : (f : Request) (r : ℕ) → m ≡ n → if_good good (carries c f) ≡ empty → ToTnc c (on_its_way f r) n m book good s x out cnt sub d → ToTnc c idle n m book good s x out cnt sub d
+  up_stays f r mn g u =
       let t : Got empty u.gone d = subst (λ (z : Cargo). Got z u.gone d) g (u.acct.got mn) in
       let h : d ≡ t.0 = t.2 ∙ append-nil t.0 in
       record { gone = u.gone; books = u.books; acct = rested c n m book d _ mn (rw h t.1) }
 
   module _ {j : ℕ} {pend generation last ready tlast : Bool} {held : Answer} {up : List Request} {up_at : ℕ} {dn : List Answer} {dn_at : ℕ} where
     -- the link goes down
-    pub up-fall : (st : State) → Sync n m j book pend st generation last ready tlast held up up_at dn dn_at → ToTnc c st n m book good s x out cnt sub d → ToTnc c down n m book good s (name_c doubtful (carried c (aboard_on st) (aboard st)) cnt x) (drop_c (carried c (aboard_on st) (aboard st)) out) (count_c (carried c (aboard_on st) (aboard st)) cnt) sub d
-    up-fall fresh y u = no-cargo _ (record { gone = u.gone; books = u.books; acct = u.acct })
-    up-fall (opening r) y u = no-cargo _ (record { gone = u.gone; books = u.books; acct = u.acct })
-    up-fall idle y u = no-cargo _ (record { gone = u.gone; books = u.books; acct = u.acct })
-    up-fall down y u = no-cargo _ (record { gone = u.gone; books = u.books; acct = u.acct })
-    up-fall (on_its_way f r) y u =
+    pub up_fall : (st : State) → Sync n m j book pend st generation last ready tlast held up up_at dn dn_at → ToTnc c st n m book good s x out cnt sub d → ToTnc c down n m book good s (name_c doubtful (carried c (aboard_on st) (aboard st)) cnt x) (drop_c (carried c (aboard_on st) (aboard st)) out) (count_c (carried c (aboard_on st) (aboard st)) cnt) sub d
+    up_fall fresh y u = no_cargo _ (record { gone = u.gone; books = u.books; acct = u.acct })
+    up_fall (opening r) y u = no_cargo _ (record { gone = u.gone; books = u.books; acct = u.acct })
+    up_fall idle y u = no_cargo _ (record { gone = u.gone; books = u.books; acct = u.acct })
+    up_fall down y u = no_cargo _ (record { gone = u.gone; books = u.books; acct = u.acct })
+    up_fall (on_its_way f r) y u =
         let a = u.acct in
         let sh = y.shape in
-        let jm = line-le y.dns in
+        let jm = line_le y.dns in
         let mn = y.mn in
         record {
           gone = u.gone ++ doubt_in (carries c f);
@@ -170,11 +170,11 @@ module _ (c : ℕ) {n m : ℕ} {book : ℕ → Request} {good : Bool} {s : List 
         }
 
     -- the TNC hears a reset, and accepts a frame
-    pub up-resets : (st : State) (k : ℕ) (good' : Bool) → Sync n m j book pend st generation last ready tlast held up up_at dn dn_at → m ≤ k → k ≤ n → (book k).reset ≡ true → ToTnc c st n m book good s x out cnt sub d → ToTnc c st n k book good' s x out cnt sub d
-    up-resets st k g' y mk kn fl u = record { gone = u.gone; books = u.books; acct = acct-resets c n m book d good out st last pend j k g' u.gone y.mn (line-le y.dns) mk kn fl y.one y.shape u.acct }
+    pub up_resets : (st : State) (k : ℕ) (good' : Bool) → Sync n m j book pend st generation last ready tlast held up up_at dn dn_at → m ≤ k → k ≤ n → (book k).reset ≡ true → ToTnc c st n m book good s x out cnt sub d → ToTnc c st n k book good' s x out cnt sub d
+    up_resets st k g' y mk kn fl u = record { gone = u.gone; books = u.books; acct = acct_resets c n m book d good out st last pend j k g' u.gone y.mn (line_le y.dns) mk kn fl y.one y.shape u.acct }
 
-    pub up-accepts : (st : State) (good' : Bool) → Sync n m j book pend st generation last ready tlast held up up_at dn dn_at → suc m ≤ n → (book (suc m)).reset ≡ false → ToTnc c st n m book good s x out cnt sub d → ToTnc c st n (suc m) book good' s x out cnt sub (d ++ block_in (if_good good' (carries c (book (suc m)))))
-    up-accepts st g' y lt fl u = record { gone = u.gone; books = u.books; acct = acct-accepts c n m book d good out st last pend j g' u.gone (line-le y.dns) lt fl y.one y.shape u.acct }
+    pub up_accepts : (st : State) (good' : Bool) → Sync n m j book pend st generation last ready tlast held up up_at dn dn_at → suc m ≤ n → (book (suc m)).reset ≡ false → ToTnc c st n m book good s x out cnt sub d → ToTnc c st n (suc m) book good' s x out cnt sub (d ++ block_in (if_good good' (carries c (book (suc m)))))
+    up_accepts st g' y lt fl u = record { gone = u.gone; books = u.books; acct = acct_accepts c n m book d good out st last pend j g' u.gone (line_le y.dns) lt fl y.one y.shape u.acct }
 
 -- what step picks stands first in its store
 Picked : (ℕ → List Block) → Pick → Type 0

@@ -3,7 +3,7 @@ use Rattle.std.proofs.Common.{◌≡◌, ℕ, suc, ◌<◌, ◌≤◌, Bool, tru
 use mathlib.Core.Bool.{beq}
 use native.Mathlib.Decide.{ℕ_discrete}
 use Rattle.law.proofs.Line.{Line, wrote, turn, lower}
-use Rattle.law.proofs.Window.{line-pass}
+use Rattle.law.proofs.Window.{line_pass}
 
 pub data Stage (F : Type 0) : Type 0 where
   fresh : Stage F
@@ -95,22 +95,22 @@ module _ {F A : Type 0} (ff ft : F → Bool) (af ag : A → Bool) (Fits : F → 
     pub top : pend ≡ true → (1 ≤ n) × (ff (book n) ≡ true) × (ft (book n) ≡ gen)
     pub shape : Shape st last pend n m j book
 
-  held-old : (t : Ear A) (book : ℕ → F) (n m : ℕ) (f : F) → m ≤ n → Held t book m → Held t (upd book (suc n) f) m
-  held-old deaf book n m f le h = h
-  held-old (knows last y) book n m f le h = rw (old book n f m le) h
+  held_old : (t : Ear A) (book : ℕ → F) (n m : ℕ) (f : F) → m ≤ n → Held t book m → Held t (upd book (suc n) f) m
+  held_old deaf book n m f le h = h
+  held_old (knows last y) book n m f le h = rw (old book n f m le) h
 
-  ups-new : (book : ℕ → F) (n m : ℕ) (f : F) (U : List F) → Line (UpQ book) n m U → Line (UpQ (upd book (suc n) f)) (suc n) m (U ++ f ∷ [])
-  ups-new book n m f U l = wrote f (omega arith, ap ff (sym (new book n f)), ap ft (sym (new book n f)), λ e. sym (new book n f)) (turn (omega arith) (λ k g lo hi q. rw (old book n f k hi) q) l)
+  ups_new : (book : ℕ → F) (n m : ℕ) (f : F) (U : List F) → Line (UpQ book) n m U → Line (UpQ (upd book (suc n) f)) (suc n) m (U ++ f ∷ [])
+  ups_new book n m f U l = wrote f (omega arith, ap ff (sym (new book n f)), ap ft (sym (new book n f)), λ e. sym (new book n f)) (turn (omega arith) (λ k g lo hi q. rw (old book n f k hi) q) l)
 
-  dns-new : (book : ℕ → F) (n m j : ℕ) (f : F) (D : List A) → m ≤ n → Line (DnQ book) m j D → Line (DnQ (upd book (suc n) f)) m j D
-  dns-new book n m j f D le l = turn (omega arith) (λ k g lo hi q. rw (old book n f k (omega arith)) q) l
+  dns_new : (book : ℕ → F) (n m j : ℕ) (f : F) (D : List A) → m ≤ n → Line (DnQ book) m j D → Line (DnQ (upd book (suc n) f)) m j D
+  dns_new book n m j f D le l = turn (omega arith) (λ k g lo hi q. rw (old book n f k (omega arith)) q) l
 
   abbrev pub fall : {st : Stage F} {gen last : Bool} {t : Ear A} {U : List F} {D : List A} → Sync st gen last t U D → Sync down gen last t U D
   fall s = record { n = s.n; m = s.m; j = s.j; book = s.book; pend = s.pend; mn = s.mn; ups = s.ups; dns = s.dns; held = s.held; one = s.one; alt = s.alt; gens = s.gens; top = s.top; shape = tt }
 
   -- a step
-  pub s-step : {gen last : Bool} {t : Ear A} {U : List F} {D : List A} (f : F) → ff f ≡ false → ft f ≡ not last → Sync idle gen last t U D → Sync (away f 0) gen last t (U ++ f ∷ []) D
-  s-step {gen} {last} {t} {U} {D} f fl tg s =
+  pub s_step : {gen last : Bool} {t : Ear A} {U : List F} {D : List A} (f : F) → ff f ≡ false → ft f ≡ not last → Sync idle gen last t U D → Sync (away f 0) gen last t (U ++ f ∷ []) D
+  s_step {gen} {last} {t} {U} {D} f fl tg s =
       let mn : s.m ≡ s.n = s.shape.0 in
       let book' : ℕ → F = upd s.book (suc s.n) f in
       let on : (k : ℕ) → k ≤ s.n → book' k ≡ s.book k = old s.book s.n f in
@@ -123,9 +123,9 @@ module _ {F A : Type 0} (ff ft : F → Bool) (af ag : A → Bool) (Fits : F → 
         book = book';
         pend = false;
         mn = omega arith;
-        ups = ups-new s.book s.n _ f U s.ups;
-        dns = dns-new s.book s.n _ _ f D s.mn s.dns;
-        held = held-old t s.book s.n _ f s.mn s.held;
+        ups = ups_new s.book s.n _ f U s.ups;
+        dns = dns_new s.book s.n _ _ f D s.mn s.dns;
+        held = held_old t s.book s.n _ f s.mn s.held;
         one = λ k a b e. omega arith;
         alt = λ a e. ap ft (ap book' sm ∙ nw) ∙ tg ∙ ap not (s.shape.3 ∙ ap ft (sym (ap s.book mn) ∙ sym (on s.m s.mn)));
         gens = λ k a b c e. elim (ℕ_discrete k (suc s.n)) [ yes q ↦ absurd (never (sym fl ∙ ap ff (sym nw) ∙ ap (λ (x : ℕ). ff (book' x)) (sym q) ∙ e)) | no q ↦ rw (on k (omega arith)) (s.gens k a (rw s.shape.2 (omega arith)) c (rw (on k (omega arith)) at e)) ];
@@ -134,8 +134,8 @@ module _ {F A : Type 0} (ff ft : F → Bool) (af ag : A → Bool) (Fits : F → 
       }
 
   -- open: the reset of this generation, for the first time or again
-  open-new : {st : Stage F} {gen last : Bool} {t : Ear A} {U : List F} {D : List A} (f : F) → ff f ≡ true → ft f ≡ gen → (s : Sync st gen last t U D) → s.pend ≡ false → Sync (opening 0) gen last t (U ++ f ∷ []) D
-  open-new {st} {gen} {last} {t} {U} {D} f fl tg s np =
+  open_new : {st : Stage F} {gen last : Bool} {t : Ear A} {U : List F} {D : List A} (f : F) → ff f ≡ true → ft f ≡ gen → (s : Sync st gen last t U D) → s.pend ≡ false → Sync (opening 0) gen last t (U ++ f ∷ []) D
+  open_new {st} {gen} {last} {t} {U} {D} f fl tg s np =
       let book' : ℕ → F = upd s.book (suc s.n) f in
       let on : (k : ℕ) → k ≤ s.n → book' k ≡ s.book k = old s.book s.n f in
       let nw : book' (suc s.n) ≡ f = new s.book s.n f in
@@ -146,9 +146,9 @@ module _ {F A : Type 0} (ff ft : F → Bool) (af ag : A → Bool) (Fits : F → 
         book = book';
         pend = true;
         mn = omega (arith, s.mn);
-        ups = ups-new s.book s.n _ f U s.ups;
-        dns = dns-new s.book s.n _ _ f D s.mn s.dns;
-        held = held-old t s.book s.n _ f s.mn s.held;
+        ups = ups_new s.book s.n _ f U s.ups;
+        dns = dns_new s.book s.n _ _ f D s.mn s.dns;
+        held = held_old t s.book s.n _ f s.mn s.held;
         one = λ k a b e. elim (ℕ_discrete k (suc s.n)) [ yes q ↦ absurd (never (sym e ∙ ap (λ (x : ℕ). ff (book' x)) q ∙ ap ff nw ∙ fl)) | no q ↦ s.one k a (omega arith) (rw (on k (omega arith)) at e) ];
         alt = λ a e. elim (ℕ_discrete (suc s.m) (suc s.n)) [ yes q ↦ absurd (never (sym e ∙ ap (λ (x : ℕ). ff (book' x)) q ∙ ap ff nw ∙ fl)) | no q ↦ rw (on (suc s.m) (omega arith), on s.m s.mn) (s.alt (omega arith) (rw (on (suc s.m) (omega arith)) at e)) ];
         gens = λ k a b c e. rw (on k (omega arith)) (s.gens k a (rw np (omega arith)) c (rw (on k (omega arith)) at e));
@@ -156,8 +156,8 @@ module _ {F A : Type 0} (ff ft : F → Bool) (af ag : A → Bool) (Fits : F → 
         shape = refl;
       }
 
-  open-old : (r : ℕ) {st : Stage F} {gen last : Bool} {t : Ear A} {U : List F} {D : List A} (f : F) → ff f ≡ true → ft f ≡ gen → (s : Sync st gen last t U D) → s.pend ≡ true → Sync (opening r) gen last t (U ++ f ∷ []) D
-  open-old r {st} {gen} {last} {t} {U} {D} f fl tg s p =
+  open_old : (r : ℕ) {st : Stage F} {gen last : Bool} {t : Ear A} {U : List F} {D : List A} (f : F) → ff f ≡ true → ft f ≡ gen → (s : Sync st gen last t U D) → s.pend ≡ true → Sync (opening r) gen last t (U ++ f ∷ []) D
+  open_old r {st} {gen} {last} {t} {U} {D} f fl tg s p =
       let tp = s.top p in
       record {
         n = s.n;
@@ -176,15 +176,15 @@ module _ {F A : Type 0} (ff ft : F → Bool) (af ag : A → Bool) (Fits : F → 
         shape = p;
       }
 
-  pub s-open : {st : Stage F} {gen last : Bool} {t : Ear A} {U : List F} {D : List A} (f : F) → ff f ≡ true → ft f ≡ gen → Sync st gen last t U D → Sync (opening 0) gen last t (U ++ f ∷ []) D
-  s-open {st} {gen} {last} {t} {U} {D} f fl tg s = go s.pend refl
+  pub s_open : {st : Stage F} {gen last : Bool} {t : Ear A} {U : List F} {D : List A} (f : F) → ff f ≡ true → ft f ≡ gen → Sync st gen last t U D → Sync (opening 0) gen last t (U ++ f ∷ []) D
+  s_open {st} {gen} {last} {t} {U} {D} f fl tg s = go s.pend refl
     where
       go : (b : Bool) → s.pend ≡ b → Sync (opening 0) gen last t (U ++ f ∷ []) D
-      go true e = open-old 0 f fl tg s e
-      go false e = open-new f fl tg s e
+      go true e = open_old 0 f fl tg s e
+      go false e = open_new f fl tg s e
 
-  pub s-reset-again : {r : ℕ} {gen last : Bool} {t : Ear A} {U : List F} {D : List A} (f : F) → ff f ≡ true → ft f ≡ gen → Sync (opening r) gen last t U D → Sync (opening (suc r)) gen last t (U ++ f ∷ []) D
-  s-reset-again {r = r} f fl tg s = open-old (suc r) f fl tg s s.shape
+  pub s_reset_again : {r : ℕ} {gen last : Bool} {t : Ear A} {U : List F} {D : List A} (f : F) → ff f ≡ true → ft f ≡ gen → Sync (opening r) gen last t U D → Sync (opening (suc r)) gen last t (U ++ f ∷ []) D
+  s_reset_again {r = r} f fl tg s = open_old (suc r) f fl tg s s.shape
 
   pub s_again : {r : ℕ} {gen last : Bool} {t : Ear A} {U : List F} {D : List A} {f : F} → Sync (away f r) gen last t U D → Sync (away f (suc r)) gen last t (U ++ f ∷ []) D
   s_again {f = f} s =
@@ -213,21 +213,21 @@ module _ {F A : Type 0} (ff ft : F → Bool) (af ag : A → Bool) (Fits : F → 
   shape_later (away f r) last pend n m j k book a b c s = (omega (arith, s.0), s.1, s.2, s.3, s.4, s.5)
   shape_later down last pend n m j k book a b c s = s
 
-  pub s-unheard : {st : Stage F} {gen last : Bool} {t : Ear A} {U : List F} (S : List A) (x : A) (D : List A) → Sync st gen last t U (S ++ x ∷ D) → Sync st gen last t U D
-  s-unheard {st} S x D s =
-      let p = line-pass S s.dns in
+  pub s_unheard : {st : Stage F} {gen last : Bool} {t : Ear A} {U : List F} (S : List A) (x : A) (D : List A) → Sync st gen last t U (S ++ x ∷ D) → Sync st gen last t U D
+  s_unheard {st} S x D s =
+      let p = line_pass S s.dns in
       record { n = s.n; m = s.m; j = p.0; book = s.book; pend = s.pend; mn = s.mn; ups = s.ups; dns = p.4; held = s.held; one = s.one; alt = s.alt; gens = λ k a. s.gens k (omega (arith, p.1)); top = s.top; shape = shape_later st _ _ _ _ s.j _ _ p.1 p.2 s.mn s.shape }
 
   -- the reset's answer is heard
-  pub open_turn : {r : ℕ} {gen last : Bool} {t : Ear A} {U : List F} (S : List A) (x : A) (D : List A) → af x ≡ true → ag x ≡ gen → (s : Sync (opening r) gen last t U (S ++ x ∷ D)) → (line-pass S s.dns).0 ≡ s.n
+  pub open_turn : {r : ℕ} {gen last : Bool} {t : Ear A} {U : List F} (S : List A) (x : A) (D : List A) → af x ≡ true → ag x ≡ gen → (s : Sync (opening r) gen last t U (S ++ x ∷ D)) → (line_pass S s.dns).0 ≡ s.n
   open_turn {gen = gen} S x D fl tg s =
-      let p = line-pass S s.dns in
+      let p = line_pass S s.dns in
       let q = p.3 in
       elim (ℕ_discrete p.0 s.n) [ yes e ↦ e | no h ↦ absurd (never_not gen (sym tg ∙ q.2 ∙ s.gens p.0 p.1 (rw s.shape (omega (arith, p.2, s.mn))) q.0 (sym q.1 ∙ fl))) ]
 
-  pub s-opened : {r : ℕ} {gen last : Bool} {t : Ear A} {U : List F} (S : List A) (x : A) (D : List A) → af x ≡ true → ag x ≡ gen → Sync (opening r) gen last t U (S ++ x ∷ D) → Sync idle (not gen) (ag x) t U D
-  s-opened {gen = gen} S x D fl tg s =
-      let p = line-pass S s.dns in
+  pub s_opened : {r : ℕ} {gen last : Bool} {t : Ear A} {U : List F} (S : List A) (x : A) (D : List A) → af x ≡ true → ag x ≡ gen → Sync (opening r) gen last t U (S ++ x ∷ D) → Sync idle (not gen) (ag x) t U D
+  s_opened {gen = gen} S x D fl tg s =
+      let p = line_pass S s.dns in
       let q = p.3 in
       let kn = open_turn S x D fl tg s in
       let mn : s.m ≡ s.n = omega (arith, p.2, s.mn) in
@@ -249,23 +249,23 @@ module _ {F A : Type 0} (ff ft : F → Bool) (af ag : A → Bool) (Fits : F → 
       }
 
   -- the answer in sequence is the one to the frame on its way
-  pub in-turn : {r : ℕ} {gen last : Bool} {t : Ear A} {U : List F} (S : List A) (x : A) (D : List A) {f : F} → af x ≡ false → ag x ≡ ft f → (s : Sync (away f r) gen last t U (S ++ x ∷ D)) → (line-pass S s.dns).0 ≡ s.n
-  in-turn S x D {f = f} fl tg s =
-      let p = line-pass S s.dns in
+  pub in_turn : {r : ℕ} {gen last : Bool} {t : Ear A} {U : List F} (S : List A) (x : A) (D : List A) {f : F} → af x ≡ false → ag x ≡ ft f → (s : Sync (away f r) gen last t U (S ++ x ∷ D)) → (line_pass S s.dns).0 ≡ s.n
+  in_turn S x D {f = f} fl tg s =
+      let p = line_pass S s.dns in
       ⊎_elim (λ h. h) (λ h. absurd (never_not (ft f) (s.shape.4 p.0 h ∙ ap not (sym p.3.2 ∙ tg)))) (last_two p.0 s.n (omega (arith, p.2, s.mn)) (omega (arith, p.1, s.shape.0)))
 
-  pub s-fits : {r : ℕ} {gen last : Bool} {t : Ear A} {U : List F} (S : List A) (x : A) (D : List A) {f : F} → af x ≡ false → ag x ≡ ft f → Sync (away f r) gen last t U (S ++ x ∷ D) → Fits f x
-  s-fits S x D {f = f} fl tg s =
-      let p = line-pass S s.dns in
-      let kn = in-turn S x D fl tg s in
+  pub s_fits : {r : ℕ} {gen last : Bool} {t : Ear A} {U : List F} (S : List A) (x : A) (D : List A) {f : F} → af x ≡ false → ag x ≡ ft f → Sync (away f r) gen last t U (S ++ x ∷ D) → Fits f x
+  s_fits S x D {f = f} fl tg s =
+      let p = line_pass S s.dns in
+      let kn = in_turn S x D fl tg s in
       let e : s.book p.0 ≡ f = ap s.book kn ∙ s.shape.1 in
       rw e at (p.3.3 (ap ff e ∙ s.shape.3))
 
-  pub s-taken : {r : ℕ} {gen last : Bool} {t : Ear A} {U : List F} (S : List A) (x : A) (D : List A) {f : F} → af x ≡ false → ag x ≡ ft f → Sync (away f r) gen last t U (S ++ x ∷ D) → Sync idle gen (ag x) t U D
-  s-taken S x D {f = f} fl tg s =
-      let p = line-pass S s.dns in
+  pub s_taken : {r : ℕ} {gen last : Bool} {t : Ear A} {U : List F} (S : List A) (x : A) (D : List A) {f : F} → af x ≡ false → ag x ≡ ft f → Sync (away f r) gen last t U (S ++ x ∷ D) → Sync idle gen (ag x) t U D
+  s_taken S x D {f = f} fl tg s =
+      let p = line_pass S s.dns in
       let q = p.3 in
-      let kn = in-turn S x D fl tg s in
+      let kn = in_turn S x D fl tg s in
       let mn : s.m ≡ s.n = omega (arith, p.2, s.mn) in
       record {
         n = s.n;
@@ -292,14 +292,14 @@ module _ {F A : Type 0} (ff ft : F → Bool) (af ag : A → Bool) (Fits : F → 
   shape_m (away f r) last pend n m j k book a b s = s
   shape_m down last pend n m j k book a b s = s
 
-  pub s-silent : {st : Stage F} {gen last : Bool} {t : Ear A} (S : List F) (x : F) (U : List F) {D : List A} → Sync st gen last t (S ++ x ∷ U) D → Sync st gen last t U D
-  s-silent S x U s =
-      let p = line-pass S s.ups in
+  pub s_silent : {st : Stage F} {gen last : Bool} {t : Ear A} (S : List F) (x : F) (U : List F) {D : List A} → Sync st gen last t (S ++ x ∷ U) D → Sync st gen last t U D
+  s_silent S x U s =
+      let p = line_pass S s.ups in
       record { n = s.n; m = s.m; j = s.j; book = s.book; pend = s.pend; mn = s.mn; ups = lower s.m p.1 p.4; dns = s.dns; held = s.held; one = s.one; alt = s.alt; gens = s.gens; top = s.top; shape = s.shape }
 
-  pub s-reset : {st : Stage F} {gen last : Bool} {t : Ear A} (S : List F) (x : F) (U : List F) {D : List A} (y : A) → ff x ≡ true → af y ≡ true → ag y ≡ ft x → Sync st gen last t (S ++ x ∷ U) D → Sync st gen last (knows (ft x) y) U (D ++ y ∷ [])
-  s-reset {st} S x U y fl yf yt s =
-      let p = line-pass S s.ups in
+  pub s_reset : {st : Stage F} {gen last : Bool} {t : Ear A} (S : List F) (x : F) (U : List F) {D : List A} (y : A) → ff x ≡ true → af y ≡ true → ag y ≡ ft x → Sync st gen last t (S ++ x ∷ U) D → Sync st gen last (knows (ft x) y) U (D ++ y ∷ [])
+  s_reset {st} S x U y fl yf yt s =
+      let p = line_pass S s.ups in
       let k : ℕ = p.0 in
       let fk : ff (s.book k) ≡ true = sym p.3.1 ∙ fl in
       let dq : DnQ s.book k y = (p.3.0, yf ∙ sym fk, yt ∙ p.3.2, λ e. absurd (never (sym e ∙ fk))) in
@@ -321,9 +321,9 @@ module _ {F A : Type 0} (ff ft : F → Bool) (af ag : A → Bool) (Fits : F → 
       }
 
   -- a frame with the last toggle is the last one heard
-  heard-again : {st : Stage F} {gen last : Bool} {l : Bool} {h : A} (S : List F) (x : F) (U : List F) {D : List A} → ff x ≡ false → ft x ≡ l → (s : Sync st gen last (knows l h) (S ++ x ∷ U) D) → (line-pass S s.ups).0 ≡ s.m
-  heard-again S x U fl tg s =
-      let p = line-pass S s.ups in
+  heard_again : {st : Stage F} {gen last : Bool} {l : Bool} {h : A} (S : List F) (x : F) (U : List F) {D : List A} → ff x ≡ false → ft x ≡ l → (s : Sync st gen last (knows l h) (S ++ x ∷ U) D) → (line_pass S s.ups).0 ≡ s.m
+  heard_again S x U fl tg s =
+      let p = line_pass S s.ups in
       let fk : ff (s.book p.0) ≡ false = sym p.3.1 ∙ fl in
       elim (ℕ_discrete p.0 s.m) [
         | yes h ↦ h
@@ -333,9 +333,9 @@ module _ {F A : Type 0} (ff ft : F → Bool) (af ag : A → Bool) (Fits : F → 
             absurd (never_not (ft (s.book s.m)) (sym s.held.0 ∙ sym tg ∙ p.3.2 ∙ ap (λ (z : ℕ). ft (s.book z)) ks ∙ s.alt lt (ap (λ (z : ℕ). ff (s.book z)) (sym ks) ∙ fk))))
       ]
 
-  pub s-held : {st : Stage F} {gen last : Bool} {l : Bool} {h : A} (S : List F) (x : F) (U : List F) {D : List A} → ff x ≡ false → ft x ≡ l → Sync st gen last (knows l h) (S ++ x ∷ U) D → Sync st gen last (knows l h) U (D ++ h ∷ [])
-  s-held {h = h} S x U fl tg s =
-      let p = line-pass S s.ups in
+  pub s_held : {st : Stage F} {gen last : Bool} {l : Bool} {h : A} (S : List F) (x : F) (U : List F) {D : List A} → ff x ≡ false → ft x ≡ l → Sync st gen last (knows l h) (S ++ x ∷ U) D → Sync st gen last (knows l h) U (D ++ h ∷ [])
+  s_held {h = h} S x U fl tg s =
+      let p = line_pass S s.ups in
       record {
         n = s.n;
         m = s.m;
@@ -353,15 +353,15 @@ module _ {F A : Type 0} (ff ft : F → Bool) (af ag : A → Bool) (Fits : F → 
         shape = s.shape;
       }
 
-  pub held-shows : {st : Stage F} {gen last : Bool} {l : Bool} {h : A} (S : List F) (x : F) (U : List F) {D : List A} → ff x ≡ false → ft x ≡ l → Sync st gen last (knows l h) (S ++ x ∷ U) D → (af h ≡ ff x) × (ag h ≡ ft x)
-  held-shows S x U fl tg s =
-      let p = line-pass S s.ups in
-      let km = heard-again S x U fl tg s in
+  pub held_shows : {st : Stage F} {gen last : Bool} {l : Bool} {h : A} (S : List F) (x : F) (U : List F) {D : List A} → ff x ≡ false → ft x ≡ l → Sync st gen last (knows l h) (S ++ x ∷ U) D → (af h ≡ ff x) × (ag h ≡ ft x)
+  held_shows S x U fl tg s =
+      let p = line_pass S s.ups in
+      let km = heard_again S x U fl tg s in
       (s.held.1.1 ∙ ap (λ (z : ℕ). ff (s.book z)) (sym km) ∙ sym p.3.1, s.held.1.2 ∙ ap (λ (z : ℕ). ft (s.book z)) (sym km) ∙ sym p.3.2)
 
-  pub s-accept : {st : Stage F} {gen last : Bool} {l : Bool} {h : A} (S : List F) (x : F) (U : List F) {D : List A} (y : A) → ff x ≡ false → (ft x ≡ l → ⊥) → af y ≡ false → ag y ≡ ft x → Fits x y → Sync st gen last (knows l h) (S ++ x ∷ U) D → Sync st gen last (knows (ft x) y) U (D ++ y ∷ [])
-  s-accept {st} S x U y fl tg yf yt fits s =
-      let p = line-pass S s.ups in
+  pub s_accept : {st : Stage F} {gen last : Bool} {l : Bool} {h : A} (S : List F) (x : F) (U : List F) {D : List A} (y : A) → ff x ≡ false → (ft x ≡ l → ⊥) → af y ≡ false → ag y ≡ ft x → Fits x y → Sync st gen last (knows l h) (S ++ x ∷ U) D → Sync st gen last (knows (ft x) y) U (D ++ y ∷ [])
+  s_accept {st} S x U y fl tg yf yt fits s =
+      let p = line_pass S s.ups in
       let k : ℕ = p.0 in
       let fk : ff (s.book k) ≡ false = sym p.3.1 ∙ fl in
       let ne : k ≡ s.m → ⊥ = λ e. tg (p.3.2 ∙ ap (λ (z : ℕ). ft (s.book z)) e ∙ sym s.held.0) in

@@ -9,13 +9,13 @@ unfolding first_blocks
 length_first zero text = refl
 length_first (suc n) text = ap suc (length_first n (drop 256 text))
 
-get_d_first : (n k : ℕ) (text : List ℕ) → k < n → get_or (first_blocks n text) k [] ≡ take 256 (drop (256 * k) text)
+get_or_first : (n k : ℕ) (text : List ℕ) → k < n → get_or (first_blocks n text) k [] ≡ take 256 (drop (256 * k) text)
 unfolding first_blocks
-get_d_first zero k text h = absurd (omega arith)
-get_d_first (suc n) zero text h = refl
-get_d_first (suc n) (suc k) text h =
+get_or_first zero k text h = absurd (omega arith)
+get_or_first (suc n) zero text h = refl
+get_or_first (suc n) (suc k) text h =
     let e : 256 + 256 * k ≡ 256 * suc k = omega arith in
-    get_d_first n k (drop 256 text) (omega arith) ∙ ap (take 256) (drop-drop (256 * k) 256 text ∙ ap (λ (m : ℕ). drop m text) e)
+    get_or_first n k (drop 256 text) (omega arith) ∙ ap (take 256) (drop-drop (256 * k) 256 text ∙ ap (λ (m : ℕ). drop m text) e)
 
 joined_first : (n : ℕ) (text : List ℕ) → flat_map (λ (b : List ℕ). b) (first_blocks n text) ≡ take (256 * n) text
 unfolding first_blocks
@@ -52,7 +52,7 @@ block_at text k m h e =
     let n : length rest ≡ length text - 256 * k = length-drop (256 * k) text in
     let same : take m rest ≡ take 256 rest = cut 256 m rest (omega arith) in
     record {
-      listed = same ∙ sym (get_d_first ((length text + 255) / 256) k text (omega arith));
+      listed = same ∙ sym (get_or_first ((length text + 255) / 256) k text (omega arith));
       bytes = same;
       some = omega (arith, length-take m rest);
       few = omega (arith, length-take m rest);

@@ -1,7 +1,7 @@
 // Poll lists: the list that a modem writes, and the list left to poll that a terminal reads from it.
 // The methods stand in `lists`, since their clauses name these types.
 ghost use Rattle.std.specs.Prelude.{◌≤◌};
-ghost use Rattle.poll.specs.Channel.{channels as channelCount};
+ghost use Rattle.poll.specs.Channel.{channels as channel_count};
 
 use crate::channel::{CHANNELS, Channel};
 
@@ -14,7 +14,7 @@ pub struct PollList {
     next: usize,
     len: usize,
     ghost left: { next ≤ len },
-    ghost few: { len ≤ channelCount },
+    ghost few: { len ≤ channel_count },
 }
 
 /// A poll list as it is written: listed values, ascending.
@@ -22,5 +22,5 @@ pub struct PollList {
 pub struct ListText {
     values: [u8; CHANNELS],
     len: usize,
-    ghost few: { len ≤ channelCount },
+    ghost few: { len ≤ channel_count },
 }

@@ -293,12 +293,12 @@ channel_step d heard b h fits f =
       some = omega arith;
       first = ne;
       bytes = bytes_push [] b (λ k l. absurd (omega arith)) fits;
-      partly = (b, refl, channel-is b t);
+      partly = (b, refl, channel_is b t);
     })
     (λ g. tt)
   where
-    channel-is : (b : ℕ) → is_channel b ≡ true → ChannelByte b
-    channel-is b t =
+    channel_is : (b : ℕ) → is_channel b ≡ true → ChannelByte b
+    channel_is b t =
         ⊎_elim (λ low. inl (omega arith))
         (λ high. inr (let z : leb b 63 ≡ false = grind (arith, nat_tests) in eqb-true b 255 (ap (λ (u : Bool). cond u true (eqb b 255)) (sym z) ∙ t)))
         (cases_lt b 64)

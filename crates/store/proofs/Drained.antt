@@ -32,22 +32,22 @@ pub nth_block : Meaning → ℕ → ℕ → Block
 nth_block m c n = get_or (m.waiting c) n (plain [])
 
 module _ (c n : ℕ) (m m' : Meaning) (old new : List ℕ) (d : Drained c n m m' old new) (h : n < count_on m c) where
-  pub first-left : m'.waiting c ≡ nth_block m c n ∷ drop (n + 1) (m.waiting c)
+  pub first_left : m'.waiting c ≡ nth_block m c n ∷ drop (n + 1) (m.waiting c)
   unfolding nth_block
-  first-left =
+  first_left =
       ap (λ (x : Meaning). x.waiting c) d.store
       ∙ replaced_here m.waiting c (drop n (m.waiting c))
       ∙ drop_more (m.waiting c) n (plain []) (counted c n m h).1
 
-  pub drained-more : Drained c (n + 1) m (drop_after m' c) old (new ++ (nth_block m c n).bytes)
+  pub drained_more : Drained c (n + 1) m (drop_after m' c) old (new ++ (nth_block m c n).bytes)
   unfolding nth_block
-  drained-more =
+  drained_more =
       let w : ℕ → List Block = m.waiting in
       let low = (counted c n m h).0 in
       record {
         few = omega arith;
         store =
-            (drop_goes m' c (nth_block m c n) (drop (n + 1) (w c)) low first-left).1
+            (drop_goes m' c (nth_block m c n) (drop (n + 1) (w c)) low first_left).1
             ∙ ap (λ (x : Meaning). with_channel x c (drop (n + 1) (w c))) d.store
             ∙ ap (λ (v : ℕ → List Block). record { waiting = v; limit = m.limit }) (replaced_twice w c (drop n (w c)) (drop (n + 1) (w c)));
         text =
@@ -59,7 +59,7 @@ module _ (c n : ℕ) (m m' : Meaning) (old new : List ℕ) (d : Drained c n m m'
   -- copy-first shows that block at the start of the buffer
   module _ (buffer : List ℕ) (long : length buffer ≡ longest_block) where
     source : copy_source m' c (length buffer) ≡ Ok (nth_block m c n)
-    source = copy_goes m' c (length buffer) (nth_block m c n) (drop (n + 1) (m.waiting c)) (omega arith) (counted c n m h).0 first-left
+    source = copy_goes m' c (length buffer) (nth_block m c n) (drop (n + 1) (m.waiting c)) (omega arith) (counted c n m h).0 first_left
 
     pub never_refused : (e : Refusal) → Err e ≡ length_of (copy_source m' c (length buffer)) → ⊥
     never_refused e answer =

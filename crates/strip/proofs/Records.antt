@@ -42,10 +42,10 @@ storable_drop zero xs e = e
 storable_drop (suc n) [] e = refl
 storable_drop (suc n) (x ∷ xs) e = storable_drop n xs (and_parts _ _ e).1
 
-pub storable_get_d : (xs : List Entry) (k : ℕ) (d : Entry) → k < length xs → all_storable xs ≡ true → storable_test (get_or xs k d) ≡ true
-storable_get_d [] k d h e = absurd (omega arith)
-storable_get_d (x ∷ xs) zero d h e = (and_parts _ _ e).0
-storable_get_d (x ∷ xs) (suc k) d h e = storable_get_d xs k d (omega arith) (and_parts _ _ e).1
+pub storable_at : (xs : List Entry) (k : ℕ) (d : Entry) → k < length xs → all_storable xs ≡ true → storable_test (get_or xs k d) ≡ true
+storable_at [] k d h e = absurd (omega arith)
+storable_at (x ∷ xs) zero d h e = (and_parts _ _ e).0
+storable_at (x ∷ xs) (suc k) d h e = storable_at xs k d (omega arith) (and_parts _ _ e).1
 
 pub length_parsed : (n : ℕ) (s : List ℕ) → length (parsed n s) ≡ n
 length_parsed zero s = refl
@@ -160,8 +160,8 @@ written a w b at c m k h lk e =
     let s : List ℕ = set (set a at c) (at + 1) m in
     let s-is : s ≡ take at a ++ (c ∷ m ∷ []) ++ drop (at + 2) a =
     ap (λ (i : ℕ). set (set a at c) i m) (add-one at) ∙ sets-eq (c ∷ m ∷ []) a at (omega arith) in
-    let lA = length-take-le at a (omega arith) in
-    let lB = length-append (take at a) (c ∷ m ∷ []) in
+    let l_a = length-take-le at a (omega arith) in
+    let l_b = length-append (take at a) (c ∷ m ∷ []) in
     let p : take (at + 2) s ≡ take at a ++ (c ∷ m ∷ []) =
     ap (take (at + 2)) s-is ∙ take_at (take at a ++ (c ∷ m ∷ [])) (drop (at + 2) a) (at + 2) (omega arith) in
     let q : drop (at + 2) s ≡ drop (at + 2) a =
@@ -197,7 +197,7 @@ reads xs t area k at d e f h la =
     let p : List ℕ = laid (take k xs) in
     let q : List ℕ = laid (drop (k + 1) xs) in
     let sp = split_laid xs k d h in
-    let fp = storable_parts x (storable_get_d xs k d h f) in
+    let fp = storable_parts x (storable_at xs k d h f) in
     let eq : area ≡ p ++ (x.channel ∷ (length x.block.bytes - 1) ∷ (x.block.bytes ++ (q ++ t))) =
     e ∙ ap (λ (v : List ℕ). v ++ t) sp ∙ simp append_assoc in
     let l1 = length-append p (record_of x ++ q) in
