@@ -6,7 +6,7 @@ use std::io;
 use store::Store;
 use store::drain::drain;
 
-/// Hears the line once more, keeps each block of the order in the store, and collects them.
+/// Hears the line, keeps each block of the order in the store, and collects them.
 pub fn keep_order<S: Store>(
     rt: &HostRuntime,
     name: &str,
