@@ -6,11 +6,7 @@ ghost use Rattle.cases.specs.Proved.{ProvedCases};
 ghost use Rattle.cases.specs.StoreCases.{StoreCases};
 
 #[cfg(test)]
-mod frame_case;
-#[cfg(test)]
-mod hex;
-#[cfg(test)]
-mod host_frames;
+mod frames;
 #[cfg(test)]
 mod poll_lists;
 #[cfg(test)]
@@ -21,8 +17,6 @@ mod stores;
 mod streams;
 #[cfg(test)]
 mod strips;
-#[cfg(test)]
-mod tnc_frames;
 
 /// How many cases are proved, and that each of them holds of the rules.
 pub fn proved_cases() -> u8

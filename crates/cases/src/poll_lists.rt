@@ -1,5 +1,4 @@
 // Poll lists, read and written, worked by hand. Lists and sets of channels are texts of hex digits.
-use crate::hex::bytes;
 use poll::list::{ListText, PollList};
 use std::alloc::Global;
 use std::process::Abort;
@@ -114,9 +113,7 @@ static TEXTS: [TextCase; 6] = [
 // A list names the channels of its values, first to last, and no more: each value less 1.
 fn check_left(rt: &impl Abort, row: usize, mut list: PollList, values: &[u8]) -> Result<(), Fail> {
     for value in values {
-        let Some(channel) = list.first() else {
-            return Err(Fail::new("too short"));
-        };
+        let channel = list.first().ok_or("too short")?;
         assert_eq!(rt; channel.number() + 1, *value, "row {row}");
         list.drop_first();
     }
@@ -125,7 +122,7 @@ fn check_left(rt: &impl Abort, row: usize, mut list: PollList, values: &[u8]) ->
 }
 
 fn check_read(rt: &impl Abort, heap: Global, row: usize, case: &ListCase) -> Result<(), Fail> {
-    let values = bytes(heap, case.values)?;
+    let values = hex::decode(heap, case.values.as_bytes())?;
     match PollList::read(values.as_slice()) {
         Some(list) if case.good => check_left(rt, row, list, values.as_slice()),
         Some(_) => Err(Fail::new("a bad list is read")),
@@ -137,8 +134,8 @@ fn check_read(rt: &impl Abort, heap: Global, row: usize, case: &ListCase) -> Res
 }
 
 fn check_listed(rt: &impl Abort, heap: Global, row: usize, case: &TextCase) -> Result<(), Fail> {
-    let channels = bytes(heap, case.waiting)?;
-    let values = bytes(heap, case.values)?;
+    let channels = hex::decode(heap, case.waiting.as_bytes())?;
+    let values = hex::decode(heap, case.values.as_bytes())?;
     let text = ListText::of(&waiting(channels.as_slice()));
     assert_eq!(rt; text.bytes(), values.as_slice(), "row {row}");
     Ok(())
@@ -147,9 +144,8 @@ fn check_listed(rt: &impl Abort, heap: Global, row: usize, case: &TextCase) -> R
 fn waiting(channels: &[u8]) -> [bool; 64] {
     let mut waiting = [false; 64];
     for channel in channels {
-        let place = usize::from(*channel);
-        if place < 64 {
-            waiting[place] = true;
+        if let Some(waits) = waiting.get_mut(usize::from(*channel)) {
+            *waits = true;
         }
     }
     waiting
@@ -157,16 +153,16 @@ fn waiting(channels: &[u8]) -> [bool; 64] {
 
 #[test]
 fn read(rt: HostRuntime) -> Result<(), Fail> {
-    for (row, case) in LISTS.iter().enumerate() {
-        check_read(&rt, rt.alloc(), row, case)?;
-    }
-    Ok(())
+    LISTS
+        .iter()
+        .enumerate()
+        .try_for_each(|(row, case)| check_read(&rt, rt.alloc(), row, case))
 }
 
 #[test]
 fn listed(rt: HostRuntime) -> Result<(), Fail> {
-    for (row, case) in TEXTS.iter().enumerate() {
-        check_listed(&rt, rt.alloc(), row, case)?;
-    }
-    Ok(())
+    TEXTS
+        .iter()
+        .enumerate()
+        .try_for_each(|(row, case)| check_listed(&rt, rt.alloc(), row, case))
 }

@@ -1,13 +1,12 @@
 // Where the writers refuse a frame: they say why, and leave the buffer as it was. The limits are worked by hand from
 // the rules: a buffer of 521 bytes, a block of 1 to 256, a text of at most 255 and no 00.
-use crate::frame_case::BLANK;
-use crate::host_frames::host_frame;
-use crate::tnc_frames::tnc_frame;
+use crate::frames::case::BLANK;
 use frame::form::Direction;
+use frame::frames::{HostFrame, Parsed, TncFrame};
 use frame::head::{Address, Head};
 use std::process::Abort;
 use std::test::Fail;
-use wire::writer::{WIRE, write_host, write_tnc};
+use wire::writer::{WIRE, write};
 
 /// Frames that differ in their code alone, the size of the buffer, and the number of the refusal, if they are refused.
 struct WriteCase {
@@ -137,43 +136,35 @@ static WRITES: [WriteCase; 16] = [
     },
 ];
 
-fn write(case: &WriteCase, code: u8, buffer: &mut [u8]) -> Result<Option<u8>, Fail> {
+// The number of the refusal, if the frame of this code and payload is refused.
+fn refusal_of<'a, F: Parsed<'a>>(
+    code: u8,
+    payload: &'a [u8],
+    buffer: &mut [u8],
+) -> Result<Option<u8>, Fail> {
     let head = Head {
         address: Address::General,
         reset: false,
         toggle: true,
     };
-    let written = match case.direction {
-        Direction::FromHost => write_host(
-            head,
-            host_frame(code, case.payload).ok_or("no host code")?,
-            buffer,
-        ),
-        Direction::FromTnc => write_tnc(
-            head,
-            tnc_frame(code, case.payload).ok_or("no TNC code")?,
-            buffer,
-        ),
-    };
-    match written {
-        Ok(_) => Ok(None),
-        Err(refusal) => Ok(Some(refusal.number())),
-    }
-}
-
-fn check_blank(rt: &impl Abort, row: usize, code: u8, buffer: &[u8]) {
-    for b in buffer {
-        assert_eq!(rt; *b, BLANK, "row {row}, code {code}");
-    }
+    let frame = F::with(code, payload).ok_or("no such code")?;
+    Ok(
+        write(head, frame, buffer)
+            .err()
+            .map(|refusal| refusal.number()),
+    )
 }
 
 fn check_write(rt: &impl Abort, row: usize, case: &WriteCase, code: u8) -> Result<(), Fail> {
     let mut whole = [BLANK; WIRE];
     let buffer = whole.get_mut(0..case.room).ok_or("no such room")?;
-    let refusal = write(case, code, buffer)?;
+    let refusal = match case.direction {
+        Direction::FromHost => refusal_of::<HostFrame>(code, case.payload, buffer)?,
+        Direction::FromTnc => refusal_of::<TncFrame>(code, case.payload, buffer)?,
+    };
     assert_eq!(rt; refusal, case.refusal, "row {row}, code {code}");
     if refusal.is_some() {
-        check_blank(rt, row, code, &whole);
+        assert!(rt; whole == [BLANK; WIRE], "row {row}, code {code}");
     }
     Ok(())
 }

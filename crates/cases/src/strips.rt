@@ -5,7 +5,6 @@ use std::process::Abort;
 use std::test::Fail;
 use store::Store;
 use strip::Strip;
-use strip::refusal::check as check_area;
 
 /// An area's length, and the limit of a strip in it; none where it is refused.
 static AREAS: [(usize, Option<usize>); 8] = [
@@ -30,8 +29,8 @@ fn areas(rt: HostRuntime) -> Result<(), Fail> {
 // The limit of a strip in an area of that length; none where it is refused, and then by 17.
 fn limit_in(rt: &impl Abort, heap: Global, len: usize) -> Result<Option<usize>, Fail> {
     let mut area = vec![in heap; 0u8; len]?;
-    match check_area(area.as_slice()) {
-        Ok(()) => Ok(Some(Strip::new(area.as_mut_slice()).limit())),
+    match Strip::over(area.as_mut_slice()) {
+        Ok(strip) => Ok(Some(strip.limit())),
         Err(refusal) => {
             assert_eq!(rt; refusal.number(), 17);
             Ok(None)
@@ -44,9 +43,9 @@ fn limit_in(rt: &impl Abort, heap: Global, len: usize) -> Result<Option<usize>, 
 fn records(rt: HostRuntime) {
     let mut area = [0x55; 516];
     let mut strip = Strip::new(&mut area);
-    assert_eq!(rt; refused(strip.put(63, &[1, 2, 3])), 0);
-    assert_eq!(rt; refused(strip.put(5, &[9])), 0);
-    assert_eq!(rt; refused(strip.put(5, &[8])), 12);
-    assert_eq!(rt; refused(strip.drop_first(63)), 0);
+    assert_eq!(rt; refused(strip.put(63, &[1, 2, 3])), None);
+    assert_eq!(rt; refused(strip.put(5, &[9])), None);
+    assert_eq!(rt; refused(strip.put(5, &[8])), Some(12));
+    assert_eq!(rt; refused(strip.drop_first(63)), None);
     assert!(rt; area[0..9] == [5, 0, 9, 2, 3, 5, 0, 9, 0x55]);
 }

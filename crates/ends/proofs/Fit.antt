@@ -1,6 +1,6 @@
 -- Frames that can be sent: each has a body, and that body is read as the frame that it was made of.
-use Rattle.std.proofs.Common.{◌≡◌, ℕ, zero, suc, ◌<◌, ◌≤◌, Bool, true, false, cond, not, ◌&&◌, eqb, leb, List, [], ◌∷◌, ◌++◌, length, get_or, take, drop, set, replicate, Some, Option, sym, refl, ap, ◌∙◌, arith, length-set}
-use Rattle.std.proofs.lemmas.List.{get_or-set_other, get_or-replicate, length_push, nil_from_length}
+use Rattle.std.proofs.Common.{◌≡◌, ◌-◌, ℕ, zero, suc, ◌<◌, ◌≤◌, Bool, true, false, cond, not, ◌&&◌, eqb, leb, List, [], ◌∷◌, ◌++◌, length, get_or, take, drop, set, replicate, Some, Option, sym, refl, ap, ◌∙◌, arith, length-set}
+use Rattle.std.proofs.lemmas.List.{take_at, get_or-set_other, get_or-replicate, length_push, nil_from_length}
 use Rattle.std.proofs.lemmas.Bool.{false≢true, not-true, not_from_false, leb-true, le-leb, eqb-false, ne_eqb, and_parts, and_from, cond-false}
 use Rattle.poll.specs.Channel.{last_channel, channels}
 use Rattle.poll.specs.List.{Fresh, GoodList}
@@ -13,7 +13,6 @@ use Rattle.frame.specs.declared.form.Form.TheVariants.{Bare, Text, Counted}
 use Rattle.frame.specs.Frame.{Frame, Body, ChannelByte, Carries, carried, body_of, form_of, code_byte_of, reset_in, toggle_in}
 use Rattle.frame.proofs.Bits.{reset_in_byte, toggle_in_byte}
 use Rattle.frame.proofs.Bodies.{known_code, code_read, form_read, rest_read, channel_read}
-use Rattle.frame.proofs.Carried.{text_front}
 use Rattle.store.specs.Meaning.{Block, Meaning}
 use Rattle.ends.specs.Frames.{Load, poll, information, command, Request, Reply, success, message, failure, block, other, Answer, load_code, load_payload, request_frame, load_in, request_of, reply_code, reply_payload, answer_frame, reply_in, answer_of, request_body, answer_body, uncarried, payload_by, frame_read, request_read, answer_read, member, is_good}
 use Rattle.ends.specs.Tnc.{is_some, waiting_to, list_for}
@@ -172,7 +171,7 @@ answer_body_is a f = go a.reply f.shape
 -- what a form carries comes out again
 uncarried_carried : (m : Form) (p : List ℕ) → Carries m p → uncarried m (carried m p) ≡ p
 uncarried_carried Bare p h = sym (nil_from_length p h)
-uncarried_carried Text p h = text_front (p ++ 0 ∷ []) p refl
+uncarried_carried Text p h = take_at p (0 ∷ []) (length (p ++ 0 ∷ []) - 1) (omega (arith, length_push p 0))
 uncarried_carried Counted p h = refl
 
 pub frame_read_is : (d : Direction) (body : List ℕ) (f : Frame) → Body d body f → frame_read d body ≡ f

@@ -7,11 +7,16 @@ use poll::channel::CHANNELS;
 
 pub mod counting;
 
-/// Two counts for each channel. Confirmed and doubtful blocks are gone.
+// The two counts of one channel. Confirmed and doubtful blocks are gone.
+#[derive(Clone, Copy, Default)]
+struct Count {
+    submitted: u32,
+    gone: u32,
+}
+
+/// Two counts for each channel.
 #[derive(Clone, Copy)]
 pub struct Counts {
-    submitted: [u32; CHANNELS],
-    gone: [u32; CHANNELS],
-    ghost whole: { length submitted ≡ channels },
-    ghost full: { length gone ≡ channels },
+    by_channel: [Count; CHANNELS],
+    ghost whole: { length by_channel ≡ channels },
 }

@@ -10,7 +10,6 @@ pub struct BlockName {
 /// Which block left its store with an answer: confirmed, so the other end has it, or doubtful, so it may have it.
 #[derive(Clone, Copy, PartialEq, Eq, Debug)]
 pub enum Went {
-    Nothing,
     Confirmed(BlockName),
     Doubtful(BlockName),
 }

@@ -30,7 +30,7 @@ pub enum Refusal {
 }
 
 impl Refusal {
-    /// The number of the refusal.
+    /// The number of the refusal. It is no discriminant, since two cases carry the number of another's refusal.
     pub fn number(self) -> u8
         ensures { result ≡ refusal_number self }
     {

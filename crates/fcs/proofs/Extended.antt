@@ -1,7 +1,8 @@
 -- The register over more bytes: a list in two parts, and its range.
-use Rattle.std.proofs.Common.{◌≡◌, ℕ, suc, ◌*◌, ◌/◌, ◌%◌, ◌<◌, List, [], ◌∷◌, ◌++◌, length, get_or, refl, suc-le-suc, zero-lt-suc, arith}
+use Rattle.std.proofs.Common.{◌≡◌, ℕ, suc, ◌*◌, ◌/◌, ◌%◌, ◌<◌, List, [], ◌∷◌, ◌++◌, length, get_or, fold, refl, ap, ◌∙◌, suc-le-suc, zero-lt-suc, arith}
 use lib.Bits.{bit_xor, xor_lt}
-use Rattle.fcs.specs.Fcs.{bit, eight, step_of, extended}
+use Rattle.fcs.specs.Fcs.{bit, eight, step_of, extended, serial, bitwise}
+use Rattle.fcs.proofs.Linear.{bit_serial}
 
 pub extended_append : (c : ℕ) (xs ys : List ℕ) → extended c (xs ++ ys) ≡ extended (extended c xs) ys
 unfolding extended
@@ -28,3 +29,11 @@ unfolding extended
 extended_fits c [] hc h = hc
 extended_fits c (x ∷ xs) hc h =
     extended_fits (step_of c x) xs (step_fits c x hc (h 0 (zero-lt-suc (length xs)))) (λ k l. h (suc k) (suc-le-suc l))
+
+-- bytes at a time are bits at a time
+pub extended_serial : (c : ℕ) (xs : List ℕ) → ((k : ℕ) → k < length xs → get_or xs k 0 < 256) → extended c xs ≡ bitwise c xs
+unfolding extended
+extended_serial c [] h = refl
+extended_serial c (x ∷ xs) h =
+    ap (λ (r : ℕ). fold step_of r xs) (bit_serial c x (h 0 (zero-lt-suc (length xs))))
+    ∙ extended_serial (serial 8 c x) xs (λ k l. h (suc k) (suc-le-suc l))

@@ -56,11 +56,7 @@ pub fn extend(register: u16, bytes: &[u8]) -> u16
     ensures value { result ≡ extended register bytes.now }
     ensures serial { result ≡ bitwise register bytes.now }
 {
-    let mut reg = register;
-    for b in bytes {
-        reg = step(reg, *b);
-    }
-    reg
+    bytes.iter().fold(register, |reg, b| step(reg, *b))
 }
 
 /// The checksum that closes a body whose register is given: complemented, the low byte first.

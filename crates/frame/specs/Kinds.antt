@@ -1,13 +1,15 @@
 -- The kinds of frames: the code of each and what it shows, and what it means that a body is read as one.
-use Rattle.std.specs.Prelude.{◌≡◌, ℕ, List, [], Some, None, Option, ◌≢◌, slice_index}
+use Rattle.std.specs.Prelude.{◌≡◌, ℕ, List, [], Some, None, IsSome, Option, ◌≢◌, refl, slice_index}
 use Rattle.std.specs.Borrow.{Bor}
 use Rattle.frame.specs.declared.form.Direction.{Direction}
+use Rattle.frame.specs.declared.form.Direction.TheVariants.{FromHost, FromTnc}
 use Rattle.frame.specs.declared.form.Form.{Form}
+use Rattle.frame.specs.declared.form.Form.TheVariants.{Bare, Text, Counted}
 use Rattle.frame.specs.declared.frames.HostFrame.{HostFrame}
 use Rattle.frame.specs.declared.frames.HostFrame.TheVariants as host
 use Rattle.frame.specs.declared.frames.TncFrame.{TncFrame}
 use Rattle.frame.specs.declared.frames.TncFrame.TheVariants as tnc
-use Rattle.frame.specs.Frame.{Frame, Body, Carries, carried, code_in, frame_in}
+use Rattle.frame.specs.Frame.{Frame, Body, Carries, carried, form_of, code_in, frame_in}
 
 -- what a parsed frame shows: its code, and its message, list or block
 pub record Shown : Type 0 where
@@ -31,6 +33,31 @@ tnc_shows (tnc.HeaderFirst p) = shows 5 p.now
 tnc_shows (tnc.Monitored p) = shows 6 p.now
 tnc_shows (tnc.Information p) = shows 7 p.now
 
+-- what the frame of a code shows that is made with this payload; none of an unknown code
+abbrev pub shown_in : Option Form → ℕ → List ℕ → Option Shown
+shown_in None code payload = None
+shown_in (Some Bare) code payload = Some (shows code [])
+shown_in (Some Text) code payload = Some (shows code payload)
+shown_in (Some Counted) code payload = Some (shows code payload)
+
+abbrev pub shown_of : Direction → ℕ → List ℕ → Option Shown
+shown_of d code payload = shown_in (form_of d code) code payload
+
+-- each case has a code that its direction knows
+pub host_known : (f : HostFrame) → IsSome (form_of FromHost (host_shows f).code)
+host_known (host.Information p) = refl
+host_known (host.Command p) = refl
+
+pub tnc_known : (f : TncFrame) → IsSome (form_of FromTnc (tnc_shows f).code)
+tnc_known tnc.Success = refl
+tnc_known (tnc.Message p) = refl
+tnc_known (tnc.Failure p) = refl
+tnc_known (tnc.Status p) = refl
+tnc_known (tnc.HeaderAlone p) = refl
+tnc_known (tnc.HeaderFirst p) = refl
+tnc_known (tnc.Monitored p) = refl
+tnc_known (tnc.Information p) = refl
+
 abbrev pub what_is_shown : Frame → Shown
 what_is_shown f = shows f.code f.payload
 
@@ -38,11 +65,6 @@ what_is_shown f = shows f.code f.payload
 abbrev pub Holds : Form → List ℕ → Option (Bor (List ℕ)) → Type 0
 Holds m rest None = (p : List ℕ) → Carries m p → rest ≢ carried m p
 Holds m rest (Some p) = Carries m p.now × (rest ≡ carried m p.now)
-
--- the payload of a body; none where it is the body of no frame
-abbrev pub PayloadOf : Direction → List ℕ → Option (Bor (List ℕ)) → Type 0
-PayloadOf d body None = (f : Frame) → Body d body f → ⊥
-PayloadOf d body (Some p) = Body d body (frame_in body p.now)
 
 -- a body read: as none where it is the body of no frame, else as one whose body it is
 abbrev pub Reads : Direction → List ℕ → Option Shown → Type 0

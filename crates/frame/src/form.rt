@@ -1,6 +1,7 @@
 // What follows the code byte of a frame, and which payloads that can carry.
 ghost use Rattle.std.specs.Prelude.{◌≡◌, MatchBool};
-ghost use Rattle.frame.specs.Frame.{form_of, Carries, NoZero};
+ghost use Rattle.frame.specs.Frame.{form_of, Carries};
+ghost use Rattle.frame.specs.Kinds.{Holds};
 
 /// The longest text that a frame carries, without its closing 00.
 pub const TEXT: usize = 255;
@@ -24,6 +25,7 @@ pub enum Form {
 }
 
 impl Form {
+    // Of two things, a direction and a code: so no `From`.
     /// The form of a code's frames; none where the direction does not know the code.
     pub fn of(direction: Direction, code: u8) -> Option<Form>
         ensures { result ≡ form_of direction code }
@@ -45,19 +47,21 @@ impl Form {
         let n = payload.len();
         match self {
             Form::Bare => n == 0,
-            Form::Text => n <= TEXT && no_zero(payload),
+            Form::Text => n <= TEXT && !payload.contains(&0),
             Form::Counted => n >= 1 && n <= BLOCK,
         }
     }
-}
 
-fn no_zero(bytes: &[u8]) -> bool
-    ensures { MatchBool result (NoZero bytes.now) (NoZero bytes.now → ⊥) }
-{
-    for b in bytes {
-        if *b == 0 {
-            return false;
-        }
+    /// The payload that the bytes after a code byte carry; none where they carry none.
+    pub(crate) fn payload<'a>(self, rest: &'a [u8]) -> Option<&'a [u8]>
+        ensures { Holds self rest.now result }
+    {
+        let payload = match (self, rest) {
+            (Form::Bare, _) => rest,
+            (Form::Text, [text @ .., 0]) => text,
+            (Form::Counted, [count, block @ ..]) if block.len() == usize::from(*count) + 1 => block,
+            (Form::Text | Form::Counted, _) => return None,
+        };
+        self.carries(payload).then_some(payload)
     }
-    true
 }

@@ -1,11 +1,40 @@
 // Parsed frames of both directions. Each case borrows its message, list or block from the body.
-ghost use Rattle.std.specs.Prelude.{◌≡◌, ◌<◌, length, slice_index};
+ghost use Rattle.std.specs.Prelude.{◌≡◌, IsSome};
 ghost use Rattle.std.specs.Option.{option_map};
-ghost use Rattle.frame.specs.Frame.{code_in};
-ghost use Rattle.frame.specs.Kinds.{host_shows, tnc_shows, Holds, PayloadOf, Reads, Built};
+ghost use Rattle.frame.specs.declared.form.Direction.{Direction};
+ghost use Rattle.frame.specs.declared.form.Direction.TheVariants.{FromHost, FromTnc};
+ghost use Rattle.frame.specs.Frame.{form_of};
+ghost use Rattle.frame.specs.Kinds.{Shown, shown_of, host_shows, tnc_shows, host_known, tnc_known, Reads, Built};
 
 use crate::form::{Direction, Form};
 use crate::head::Address;
+
+/// The parsed frames of one direction: a case for each code, with the payload that it borrows.
+pub trait Parsed<'a>: Copy {
+    // whose frames they are, and the code and payload that each shows
+    ghost direction: { Direction };
+
+    ghost shows: { Self → Shown };
+
+    /// Whose frames they are.
+    fn direction() -> Direction
+        ensures { result ≡ direction };
+
+    /// The case of a code, with the payload; none where the direction does not know the code.
+    fn with(code: u8, payload: &'a [u8]) -> Option<Self>
+        ensures { option_map shows result ≡ shown_of direction code payload.now };
+
+    /// The code of its case.
+    fn code(self) -> u8
+        ensures { result ≡ (shows self).code };
+
+    /// What it carries; nothing in a case without a payload.
+    fn payload(self) -> &'a [u8]
+        ensures { result.now ≡ (shows self).payload };
+
+    // each case has a code that the direction knows
+    ghost known: { (f : Self) → IsSome (form_of direction (shows f).code) };
+}
 
 /// A frame from the host. Its payload has 1 to 256 bytes.
 #[derive(Clone, Copy)]
@@ -31,28 +60,64 @@ pub enum TncFrame<'a> {
     Information(&'a [u8]),
 }
 
-impl<'a> HostFrame<'a> {
-    /// Reads a body; none unless it is that of a host frame.
-    pub fn of(body: &'a [u8]) -> Option<HostFrame<'a>>
-        ensures reads { Reads Direction.FromHost body.now (option_map host_shows result) }
-        ensures built { Built Direction.FromHost body.now (option_map host_shows result) }
+impl<'a> Parsed<'a> for HostFrame<'a> {
+    ghost direction = { FromHost };
+
+    ghost shows = { host_shows };
+
+    ghost known = { host_known };
+
+    fn direction() -> Direction
+        ensures { result ≡ FromHost }
     {
-        let payload = payload_of(Direction::FromHost, body)?;
-        match code_of(body) {
+        Direction::FromHost
+    }
+
+    fn with(code: u8, payload: &'a [u8]) -> Option<HostFrame<'a>>
+        ensures { option_map host_shows result ≡ shown_of FromHost code payload.now }
+    {
+        match code {
             0 => Some(HostFrame::Information(payload)),
-            _ => Some(HostFrame::Command(payload)),
+            1 => Some(HostFrame::Command(payload)),
+            _ => None,
+        }
+    }
+
+    fn code(self) -> u8
+        ensures { result ≡ (host_shows self.entry).code }
+    {
+        match self {
+            HostFrame::Information(_) => 0,
+            HostFrame::Command(_) => 1,
+        }
+    }
+
+    fn payload(self) -> &'a [u8]
+        ensures { result.now ≡ (host_shows self.entry).payload }
+    {
+        match self {
+            HostFrame::Information(block) | HostFrame::Command(block) => block,
         }
     }
 }
 
-impl<'a> TncFrame<'a> {
-    /// Reads a body; none unless it is that of a TNC frame.
-    pub fn of(body: &'a [u8]) -> Option<TncFrame<'a>>
-        ensures reads { Reads Direction.FromTnc body.now (option_map tnc_shows result) }
-        ensures built { Built Direction.FromTnc body.now (option_map tnc_shows result) }
+impl<'a> Parsed<'a> for TncFrame<'a> {
+    ghost direction = { FromTnc };
+
+    ghost shows = { tnc_shows };
+
+    ghost known = { tnc_known };
+
+    fn direction() -> Direction
+        ensures { result ≡ FromTnc }
     {
-        let payload = payload_of(Direction::FromTnc, body)?;
-        match code_of(body) {
+        Direction::FromTnc
+    }
+
+    fn with(code: u8, payload: &'a [u8]) -> Option<TncFrame<'a>>
+        ensures { option_map tnc_shows result ≡ shown_of FromTnc code payload.now }
+    {
+        match code {
             0 => Some(TncFrame::Success),
             1 => Some(TncFrame::Message(payload)),
             2 => Some(TncFrame::Failure(payload)),
@@ -60,69 +125,51 @@ impl<'a> TncFrame<'a> {
             4 => Some(TncFrame::HeaderAlone(payload)),
             5 => Some(TncFrame::HeaderFirst(payload)),
             6 => Some(TncFrame::Monitored(payload)),
-            _ => Some(TncFrame::Information(payload)),
+            7 => Some(TncFrame::Information(payload)),
+            _ => None,
+        }
+    }
+
+    fn code(self) -> u8
+        ensures { result ≡ (tnc_shows self.entry).code }
+    {
+        match self {
+            TncFrame::Success => 0,
+            TncFrame::Message(_) => 1,
+            TncFrame::Failure(_) => 2,
+            TncFrame::Status(_) => 3,
+            TncFrame::HeaderAlone(_) => 4,
+            TncFrame::HeaderFirst(_) => 5,
+            TncFrame::Monitored(_) => 6,
+            TncFrame::Information(_) => 7,
+        }
+    }
+
+    fn payload(self) -> &'a [u8]
+        ensures { result.now ≡ (tnc_shows self.entry).payload }
+    {
+        match self {
+            TncFrame::Success => &[],
+            TncFrame::Message(text)
+            | TncFrame::Failure(text)
+            | TncFrame::Status(text)
+            | TncFrame::HeaderAlone(text)
+            | TncFrame::HeaderFirst(text) => text,
+            TncFrame::Monitored(block) | TncFrame::Information(block) => block,
         }
     }
 }
 
-// The payload of a body, in either direction.
-fn payload_of<'a>(direction: Direction, body: &'a [u8]) -> Option<&'a [u8]>
-    ensures { PayloadOf direction body.now result }
+/// Reads a body; none unless it is that of a frame of the direction.
+pub fn read<'a, F: Parsed<'a>>(body: &'a [u8]) -> Option<F>
+    ensures reads { Reads F.direction body.now (option_map F.shows result) }
+    ensures built { Built F.direction body.now (option_map F.shows result) }
 {
-    let n = body.len();
-    if n < 2 {
+    let [channel, code, rest @ ..] = body else {
         return None;
-    }
-    let _ = Address::of(body[0])?;
-    let form = Form::of(direction, body[1] & 0x3f)?;
-    carried(form, &body[2..n])
-}
-
-// What the bytes after a code byte carry.
-fn carried<'a>(form: Form, rest: &'a [u8]) -> Option<&'a [u8]>
-    ensures { Holds form rest.now result }
-{
-    match form {
-        Form::Bare => carried_bare(rest),
-        Form::Text => carried_text(rest),
-        Form::Counted => carried_counted(rest),
-    }
-}
-
-fn carried_bare<'a>(rest: &'a [u8]) -> Option<&'a [u8]>
-    ensures { Holds Form.Bare rest.now result }
-{
-    if rest.len() == 0 { Some(rest) } else { None }
-}
-
-fn carried_text<'a>(rest: &'a [u8]) -> Option<&'a [u8]>
-    ensures { Holds Form.Text rest.now result }
-{
-    let n = rest.len();
-    if n == 0 || rest[n - 1] != 0 {
-        return None;
-    }
-    let text = &rest[0..n - 1];
-    if Form::Text.carries(text) {
-        Some(text)
-    } else {
-        None
-    }
-}
-
-fn carried_counted<'a>(rest: &'a [u8]) -> Option<&'a [u8]>
-    ensures { Holds Form.Counted rest.now result }
-{
-    let n = rest.len();
-    if n == 0 || n - 1 != rest[0] as usize + 1 {
-        return None;
-    }
-    Some(&rest[1..n])
-}
-
-fn code_of(body: &[u8]) -> u8
-    requires { 1 < length body.now }
-    ensures { result ≡ code_in (slice_index body.now 1) }
-{
-    body[1] & 0x3f
+    };
+    let _ = Address::of(*channel)?;
+    let code = code & 0x3f;
+    let payload = Form::of(F::direction(), code)?.payload(rest)?;
+    F::with(code, payload)
 }

@@ -24,16 +24,16 @@ pub struct Head {
     pub toggle: bool,
 }
 
+// Methods, and not `From` and `TryFrom`: `byte` says which byte, and whoever reads one has its own refusal for a bad one.
 impl Address {
     /// The address that a channel byte names; none from 64 to 254.
     pub fn of(byte: u8) -> Option<Address>
         ensures { MatchOption result (ChannelByte byte → ⊥) (λ a. (byte_of a ≡ byte) × ChannelByte byte) }
     {
-        if byte == GENERAL {
-            return Some(Address::General);
+        match byte {
+            GENERAL => Some(Address::General),
+            _ => Channel::new(byte).map(Address::Channel),
         }
-        let channel = Channel::new(byte)?;
-        Some(Address::Channel(channel))
     }
 
     /// The channel byte.
@@ -48,18 +48,17 @@ impl Address {
 }
 
 impl Head {
+    // Of a part of the bytes, and with no error but that there is none: so an Option, and no `TryFrom`.
     /// The head of a body; none where it is shorter than a head, or its channel byte is none.
     pub fn of(body: &[u8]) -> Option<Head>
         ensures reads { MatchOption result (NoHead body.now) (λ h. HeadIn body.now h) }
         ensures built { (d : Direction) (f : Frame) → Body d body.now f → MatchOption result ⊥ (λ h. HeadOf f h) }
     {
-        if body.len() < 2 {
+        let [channel, code, ..] = body else {
             return None;
-        }
-        let address = Address::of(body[0])?;
-        let code = body[1];
+        };
         Some(Head {
-            address,
+            address: Address::of(*channel)?,
             reset: code & 0x40 != 0,
             toggle: code & 0x80 != 0,
         })

@@ -4,5 +4,4 @@ mod Picks
 mod Lists
 mod InSequence
 mod Confirming
-mod Timing
 mod Hearing

@@ -1,21 +1,14 @@
 -- A poll list as it is read is the list that the rules take.
-use Rattle.std.proofs.Common.{◌≡◌, ℕ, pred, ◌+◌, Bool, true, false, not, ◌&&◌, eqb, List, [], ◌∷◌, map, sym, refl, ap, ◌∙◌, subst, arith, Bor}
-use mathlib.Core.Bool.{beq}
-use Rattle.std.proofs.lemmas.Bool.{true≢false, cond-true, cond-false, eq-eqb, and_from}
+use Rattle.std.proofs.Common.{◌≡◌, ℕ, pred, ◌+◌, true, false, List, [], ◌∷◌, map, Some, None, Option, sym, refl, ap, ◌∙◌, arith, Bor, MatchOption}
+use Rattle.std.proofs.lemmas.Bool.{false_from_ne_true}
 use Rattle.poll.specs.List.{GoodList, polled}
 use Rattle.poll.specs.declared.list.PollList.{PollList}
-use Rattle.frame.specs.declared.head.Head.{Head}
 use Rattle.frame.specs.declared.frames.TncFrame.{TncFrame}
 use Rattle.frame.specs.declared.frames.TncFrame.TheVariants as tnc
-use Rattle.frame.specs.Frame.{general}
-use Rattle.frame.specs.Head.{byte_of}
-use Rattle.store.specs.Meaning.{Meaning}
 use Rattle.ends.specs.Frames.{is_good, listed_channels}
+use Rattle.ends.specs.Host.{is_good_list, list_in}
 use Rattle.ends.proofs.Fit.{is_good_holds, good_is}
-use Rattle.host.specs.declared.answer.Cause.TheVariants as cause
-use Rattle.host.specs.declared.host.met.Met.TheVariants as met
-use Rattle.host.specs.Sent.{poll_request}
-use Rattle.host.specs.Met.{answer_shown, OpeningMet, SequenceMet}
+use Rattle.host.specs.Met.{reply_shown}
 
 same_list : (xs : List ℕ) → listed_channels (map (λ (c : ℕ). c + 1) xs) ≡ xs
 same_list [] = refl
@@ -27,48 +20,16 @@ list_is : (text : List ℕ) (l : PollList) → map (λ (c : ℕ). c + 1) (polled
 list_is text l e = sym (same_list (polled l)) ∙ ap listed_channels e
 
 not_good : (text : List ℕ) → (GoodList text → ⊥) → is_good text ≡ false
-not_good text bad = go (is_good text) refl
-  where
-    go : (t : Bool) → is_good text ≡ t → t ≡ false
-    go true e = absurd (bad (good_is text e))
-    go false e = refl
+not_good text bad = false_from_ne_true (is_good text) (λ e. bad (good_is text e))
 
-pub not_false : (a : Bool) → not a ≡ false → a ≡ true
-not_false true e = refl
-not_false false e = absurd (true≢false e)
-
--- the reset's answer
-module _ (g : Bool) (h : Head) (f : TncFrame) (text : Bor (List ℕ)) (re : h.reset ≡ true) (to : beq h.toggle g ≡ true) (ad : byte_of h.address ≡ general) (is : f ≡ tnc.Message text) where
-  pub opens : (l : PollList) → GoodList text.now → map (λ (c : ℕ). c + 1) (polled l) ≡ text.now → OpeningMet g (answer_shown h f) (met.Opened l)
-  opens l good read = subst (λ (x : TncFrame). OpeningMet g (answer_shown h x) (met.Opened l)) (sym is) (record {
-    rule = sym (cond-true _ _ _ re ∙ cond-true _ _ _ to ∙ cond-true _ _ _ (and_from _ _ (eq-eqb _ _ ad) (is_good_holds text.now good)));
-    lists = list_is text.now l read;
-  })
-
-  pub passes_over : (GoodList text.now → ⊥) → OpeningMet g (answer_shown h f) met.Stale
-  passes_over bad = subst (λ (x : TncFrame). OpeningMet g (answer_shown h x) met.Stale) (sym is) (record {
-    rule = sym (cond-true _ _ _ re ∙ cond-true _ _ _ to ∙ cond-false _ _ _ (no_list (eqb (byte_of h.address) general)));
-    lists = tt;
-  })
-    where
-      no_list : (t : Bool) → (t && is_good text.now) ≡ false
-      no_list true = not_good text.now bad
-      no_list false = refl
-
--- the general poll's answer
-module _ (reset toggle : Bool) (inn : Meaning) (h : Head) (f : TncFrame) (text : Bor (List ℕ)) (ad : byte_of h.address ≡ general) (is : f ≡ tnc.Message text) where
-  pub takes_list : (l : PollList) → GoodList text.now → map (λ (c : ℕ). c + 1) (polled l) ≡ text.now → SequenceMet (poll_request general reset toggle) inn inn (answer_shown h f) (met.Listed l)
-  takes_list l good read = subst (λ (x : TncFrame). SequenceMet (poll_request general reset toggle) inn inn (answer_shown h x) (met.Listed l)) (sym is) (record {
-    rule = sym (cond-true _ _ _ (eq-eqb _ _ ad) ∙ cond-true _ _ _ (is_good_holds text.now good));
-    lists = list_is text.now l read;
-    confirms = tt;
-    store = refl;
-  })
-
-  pub no_list : (GoodList text.now → ⊥) → SequenceMet (poll_request general reset toggle) inn inn (answer_shown h f) (met.Falls cause.WrongAnswer)
-  no_list bad = subst (λ (x : TncFrame). SequenceMet (poll_request general reset toggle) inn inn (answer_shown h x) (met.Falls cause.WrongAnswer)) (sym is) (record {
-    rule = sym (cond-true _ _ _ (eq-eqb _ _ ad) ∙ cond-false _ _ _ (not_good text.now bad));
-    lists = tt;
-    confirms = tt;
-    store = refl;
-  })
+-- what is read of a message is its list, where it is good
+pub list_read :
+    (f : TncFrame) (text : Bor (List ℕ)) (r : Option PollList)
+    → f ≡ tnc.Message text
+    → MatchOption r (GoodList text.now → ⊥) (λ l. GoodList text.now × (map (λ (c : ℕ). c + 1) (polled l) ≡ text.now))
+    → MatchOption r (is_good_list (reply_shown f) ≡ false) (λ l. (is_good_list (reply_shown f) ≡ true) × (polled l ≡ list_in (reply_shown f)))
+list_read f text None is e = ap (λ (x : TncFrame). is_good_list (reply_shown x)) is ∙ not_good text.now e
+list_read f text (Some l) is e = (
+  ap (λ (x : TncFrame). is_good_list (reply_shown x)) is ∙ is_good_holds text.now e.0,
+  list_is text.now l e.1 ∙ sym (ap (λ (x : TncFrame). list_in (reply_shown x)) is),
+)

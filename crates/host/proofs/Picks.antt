@@ -1,13 +1,12 @@
--- The lowest channel with a block, and its first block as copy-first shows it.
-use Rattle.std.proofs.Common.{◌≡◌, ℕ, zero, suc, ◌+◌, ◌<◌, ◌≤◌, Bool, false, List, [], ◌∷◌, length, take, Some, None, Ok, Option, sym, refl, ap, ◌∙◌, add-one, arith, MatchOption}
+-- The lowest channel with a block, and its first block, which is sent.
+use Rattle.std.proofs.Common.{◌≡◌, ℕ, zero, suc, ◌+◌, ◌<◌, ◌≤◌, Bool, true, false, cond, nat_lt, List, [], ◌∷◌, length, Some, None, Option, sym, refl, ap, ◌∙◌, subst, add-one, arith, MatchOption}
+use Rattle.std.specs.List.{find, range_with_len}
 use native.Mathlib.Decide.{ℕ_discrete}
-use Rattle.std.proofs.lemmas.List.{take_at}
-use Rattle.std.proofs.lemmas.Bool.{cond-false, le-ltb}
+use Rattle.std.proofs.lemmas.List.{nil_from_length}
+use Rattle.std.proofs.lemmas.Bool.{cond-false, le-ltb, ltb-true, ltb-false}
 use Rattle.poll.specs.Channel.{last_channel, channels}
-use Rattle.frame.specs.Frame.{longest_block}
 use Rattle.store.specs.Meaning.{Block, Meaning}
-use Rattle.store.specs.Rules.{copy_source, length_of, written_over, count_on}
-use Rattle.store.proofs.Ways.{copy_goes}
+use Rattle.store.specs.Rules.{count_on}
 use Rattle.poll.specs.declared.channel.Channel.{Channel}
 use Rattle.ends.specs.Frames.{Request}
 use Rattle.ends.specs.Host.{Pick, general_poll, send_block_of, or_else, lowest_below, pick, request_for}
@@ -39,34 +38,42 @@ found w n e low b bs f = found_at w n channels b bs e f (omega arith)
 pub count_is : (m : Meaning) (c : ℕ) → c ≤ last_channel → count_on m c ≡ length (m.waiting c)
 count_is m c low = cond-false _ _ _ (le-ltb last_channel c low)
 
-pub empty_is : (l : List Block) → length l ≤ 0 → l ≡ []
-empty_is [] h = refl
-empty_is (b ∷ l) h = absurd (omega arith)
+-- the search for the first channel that counts a block
+module _ (m : Meaning) where
+  abbrev pub has_block : ℕ → Bool
+  has_block c = nat_lt 0 (count_on m c)
 
--- the block that copy-first shows
-pub copied_block :
-    (m : Meaning) (c len : ℕ) (b : Block) (bs : List Block) (before after : List ℕ)
-    → c ≤ last_channel
-    → longest_block ≤ length before
-    → m.waiting c ≡ b ∷ bs
-    → Ok len ≡ length_of (copy_source m c (length before))
-    → after ≡ written_over (copy_source m c (length before)) before
-    → take len after ≡ b.bytes
-copied_block m c len b bs before after low big e answer buffer =
-    let source = copy_goes m c (length before) b bs big low e in
-    let same : Ok len ≡ Ok (length b.bytes) = answer ∙ ap length_of source in
-    let l : len ≡ length b.bytes = cc in
-    ap (take len) (buffer ∙ ap (λ r. written_over r before) source) ∙ take_at b.bytes _ len (sym l)
+  abbrev pub Searched : Option ℕ → Type 0
+  Searched None = lowest_below channels m.waiting ≡ general_poll
+  Searched (Some n) = (n ≤ last_channel) × ((lowest_below n m.waiting ≡ general_poll) × (0 < count_on m n))
 
--- the channel that was found
-pub lowest_is : (m : Meaning) (n : ℕ) (r : Option Channel) → MatchOption r (last_channel < n) (λ c. (c.number ≡ n) × (n ≤ last_channel)) → n ≤ last_channel → lowest_below n m.waiting ≡ general_poll → 0 < count_on m n → LowestIs m.waiting r
-lowest_is m n None made low e some = absurd (omega (arith, made))
-lowest_is m n (Some c) made low e some =
-    let l = count_is m n low in
-    let same : c.number ≡ n = made.0 in
-    let here : m.waiting c.number ≡ m.waiting n = ap m.waiting same in
-    let k = ap length here in
-    (omega arith, λ b bs f. found m.waiting n e low b bs (sym here ∙ f) ∙ ap (λ (j : ℕ). send_block_of j b) (sym same))
+  pub searched : (k n : ℕ) → n + k ≡ channels → lowest_below n m.waiting ≡ general_poll → Searched (find has_block (range_with_len n k))
+  searched zero n e none = let same : n ≡ channels = omega arith in subst (λ (x : ℕ). lowest_below x m.waiting ≡ general_poll) same none
+  searched (suc k) n e none = go (has_block n) refl (searched k (n + 1) (omega arith))
+    where
+      low : n ≤ last_channel
+      low = omega arith
+
+      above : Option ℕ
+      above = find has_block (range_with_len (n + 1) k)
+
+      go : (t : Bool) → has_block n ≡ t → (lowest_below (n + 1) m.waiting ≡ general_poll → Searched above) → Searched (cond t (Some n) above)
+      go true q on = (low, (none, ltb-true 0 (count_on m n) q))
+      go false q on =
+          let l = count_is m n low in
+          let h = ltb-false 0 (count_on m n) q in
+          on (none_more m.waiting n none (nil_from_length (m.waiting n) (omega arith)))
+
+  -- the channel that was found
+  pub lowest_is : (o : Option ℕ) (r : Option Channel) → Searched o → MatchOption o (r ≡ None) (λ n. MatchOption r (last_channel < n) (λ c. (c.number ≡ n) × (n ≤ last_channel))) → LowestIs m.waiting r
+  lowest_is None r s made = subst (LowestIs m.waiting) (sym made) s
+  lowest_is (Some n) None s made = absurd (omega arith)
+  lowest_is (Some n) (Some c) s made =
+      let l = count_is m n s.0 in
+      let same : c.number ≡ n = made.0 in
+      let here : m.waiting c.number ≡ m.waiting n = ap m.waiting same in
+      let k = ap length here in
+      (omega arith, λ b bs f. found m.waiting n s.1.0 s.0 b bs (sym here ∙ f) ∙ ap (λ (j : ℕ). send_block_of j b) (sym same))
 
 -- its block is what is sent
 pub sends_block :

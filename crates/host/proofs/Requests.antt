@@ -1,20 +1,33 @@
--- The host's requests may be sent.
-use Rattle.std.proofs.Common.{ℕ, ◌≤◌, Bool, length, refl, inl, inr}
+-- The host's frames may be sent.
+use Rattle.std.proofs.Common.{◌≡◌, ℕ, refl, ap, ◌∙◌, subst, inl, inr}
+use Rattle.frame.specs.declared.form.Direction.TheVariants.{FromHost}
+use Rattle.frame.specs.declared.form.Form.TheVariants.{Counted}
+use Rattle.frame.specs.declared.frames.HostFrame.{HostFrame}
+use Rattle.frame.specs.declared.frames.HostFrame.TheVariants as host
 use Rattle.frame.specs.declared.head.Address.{Address}
 use Rattle.frame.specs.declared.head.Address.TheVariants.{Channel, General}
-use Rattle.poll.specs.Channel.{last_channel}
-use Rattle.frame.specs.Frame.{ChannelByte, longest_block}
-use Rattle.frame.specs.Head.{byte_of}
-use Rattle.store.specs.Meaning.{Block}
-use Rattle.ends.proofs.Fit.{FitRequest}
-use Rattle.host.specs.Sent.{poll_request, block_request}
+use Rattle.frame.specs.declared.head.Head.{Head}
+use Rattle.frame.specs.Frame.{Frame, Body, ChannelByte, Carries, body_of}
+use Rattle.frame.specs.Head.{byte_of, framed}
+use Rattle.frame.specs.Kinds.{host_shows}
+use Rattle.ends.specs.Frames.{Request, load_code, load_payload, request_body, request_frame}
+use Rattle.host.specs.Sent.{load_shows}
 
-pub address_fits : (a : Address) → ChannelByte (byte_of a)
+address_fits : (a : Address) → ChannelByte (byte_of a)
 address_fits (Channel c) = inl c.within
 address_fits General = inr refl
 
-pub poll_fits : (c : ℕ) (reset toggle : Bool) → ChannelByte c → FitRequest (poll_request c reset toggle)
-poll_fits c reset toggle h = record { place = h; shape = tt }
+frame_fits : (h : Head) (f : HostFrame) → Carries Counted (host_shows f).payload → Body FromHost (body_of Counted (framed h (host_shows f))) (framed h (host_shows f))
+frame_fits h (host.Information p) carries = record { form = Counted; sendable = record { known = refl; address = address_fits h.address; carries = carries }; bytes_are = refl }
+frame_fits h (host.Command p) carries = record { form = Counted; sendable = record { known = refl; address = address_fits h.address; carries = carries }; bytes_are = refl }
 
-pub block_fits : (c : ℕ) (reset toggle : Bool) (b : Block) → c ≤ last_channel → 1 ≤ length b.bytes → length b.bytes ≤ longest_block → FitRequest (block_request c reset toggle b)
-block_fits c reset toggle b low some short = record { place = inl low; shape = (low, (some, short)) }
+-- the frame that has a request's address and shows its load has the request's body
+module _ (q : Request) (a : Address) (f : HostFrame) where
+  abbrev pub head : Head
+  head = record { address = a; reset = q.reset; toggle = q.toggle }
+
+  pub request_fits : byte_of a ≡ q.channel → host_shows f ≡ load_shows q.load → Carries Counted (host_shows f).payload → Body FromHost (request_body q) (framed head (host_shows f))
+  request_fits at shows carries =
+      let same : framed head (host_shows f) ≡ request_frame q =
+      ap (framed head) shows ∙ ap (λ (c : ℕ). record { channel = c; code = load_code q.load; reset = q.reset; toggle = q.toggle; payload = load_payload q.load }) at in
+      subst (λ (x : Frame). Body FromHost (body_of Counted x) (framed head (host_shows f))) same (frame_fits head f carries)

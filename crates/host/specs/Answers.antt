@@ -91,17 +91,24 @@ abbrev pub doubt_word : Option DoubtNote → Word
 doubt_word None = silent
 doubt_word (Some note) = doubts note.channel note.number
 
+abbrev pub rule_word : Heard → Word
+rule_word heard.Stale = silent
+rule_word heard.Opened = silent
+rule_word (heard.Confirmed b) = confirms b.channel b.number
+rule_word heard.BlockRefused = silent
+rule_word heard.NothingThere = silent
+rule_word heard.Received = silent
+rule_word heard.Listed = silent
+rule_word (heard.Down f) = doubt_word f.doubt
+
 abbrev pub heard_word : Result Heard Refusal → Word
-heard_word (Ok heard.More) = silent
-heard_word (Ok heard.Stale) = silent
-heard_word (Ok heard.Opened) = silent
-heard_word (Ok (heard.Confirmed b)) = confirms b.channel b.number
-heard_word (Ok heard.BlockRefused) = silent
-heard_word (Ok heard.NothingThere) = silent
-heard_word (Ok heard.Received) = silent
-heard_word (Ok heard.Listed) = silent
-heard_word (Ok (heard.Down f)) = doubt_word f.doubt
+heard_word (Ok h) = rule_word h
 heard_word (Err e) = silent
+
+abbrev pub byte_word : Result (Option Heard) Refusal → Word
+byte_word (Ok None) = silent
+byte_word (Ok (Some h)) = rule_word h
+byte_word (Err e) = silent
 
 abbrev pub timed_word : Result Timed Refusal → Word
 timed_word (Ok (timed.Repeated n)) = silent

@@ -1,16 +1,15 @@
 -- The rule that a frame met, as code holds it: with the list, the channel or the cause that it brings.
-use Rattle.std.specs.Prelude.{◌≡◌, ℕ, Bool, List, Some, None, Option, Result, ◌≢◌}
+use Rattle.std.specs.Prelude.{◌≡◌, ℕ, Bool, Result, ◌≢◌}
 use Rattle.ends.specs.declared.refusal.Refusal.{Refusal}
 use Rattle.poll.specs.List.{polled}
-use Rattle.frame.specs.declared.head.Head.{Head}
 use Rattle.frame.specs.declared.frames.TncFrame.{TncFrame}
 use Rattle.frame.specs.declared.frames.TncFrame.TheVariants as tnc
 use Rattle.frame.specs.Head.{byte_of}
 use Rattle.store.specs.Meaning.{Meaning, plain}
-use Rattle.ends.specs.Frames.{Request, Reply, success, message, failure, block, other, Answer, answer_read, Cargo, empty, cargo_of, cargo_in}
+use Rattle.ends.specs.Frames.{Request, Reply, success, message, failure, block, other, Answer, Cargo, empty, cargo_of, cargo_in}
 use Rattle.ends.specs.Host as model
 use Rattle.ends.specs.Host.{list_in, aboard, aboard_on, stores_in, room_for, opening_rule, in_sequence, HostRule, stale, spare_used, opened, confirmed, block_refused, nothing_there, received, listed, no_room, falls, host_rule}
-use Rattle.host.specs.declared.host.hearing.FrameMet.{FrameMet}
+use Rattle.host.specs.declared.host.reading.Answer as read
 use Rattle.host.specs.declared.host.met.Met.{Met}
 use Rattle.host.specs.declared.host.met.Met.TheVariants as met
 use Rattle.host.specs.declared.answer.Heard.{Heard}
@@ -31,8 +30,8 @@ reply_shown (tnc.Information p) = block (plain p.now)
 abbrev pub answer_with : ℕ → Bool → Bool → Reply → Answer
 answer_with c reset toggle reply = record { channel = c; reset = reset; toggle = toggle; reply = reply }
 
-abbrev pub answer_shown : Head → TncFrame → Answer
-answer_shown h f = answer_with (byte_of h.address) h.reset h.toggle (reply_shown f)
+abbrev pub answer_shown : read.Answer → Answer
+answer_shown r = answer_with (byte_of r.head.address) r.head.reset r.head.toggle (reply_shown r.frame)
 
 abbrev pub rule_of : Met → HostRule
 rule_of met.Stale = stale
@@ -107,10 +106,3 @@ pub record Followed (m : Met) (toggle : Bool) (before after : model.Host) (out o
   pub out_is : (c : ℕ) (reset : Bool) (reply : Reply) (inn : Meaning) → out_after ≡ (model.by_hear (rule_of m) (answer_with c reset toggle reply) before out inn).out
   pub word_is : (c : ℕ) (reset : Bool) (reply : Reply) (inn : Meaning) → heard_word r ≡ (model.by_hear (rule_of m) (answer_with c reset toggle reply) before out inn).word
   pub answer_is : (c : ℕ) (reset : Bool) (reply : Reply) (inn : Meaning) → r ≡ heard_by (rule_of m) (model.by_hear (rule_of m) (answer_with c reset toggle reply) before out inn).word
-
--- what the body that passed meets, if one did: the rule, with the toggle of its frame
-abbrev pub BodyMet : Option (List ℕ) → model.Host → Meaning → Meaning → Option FrameMet → Type 0
-BodyMet None h inn after None = after ≡ inn
-BodyMet None h inn after (Some m) = ⊥
-BodyMet (Some body) h inn after None = ⊥
-BodyMet (Some body) h inn after (Some m) = (m.toggle ≡ (answer_read body).toggle) × MetIs h inn after (answer_read body) m.met

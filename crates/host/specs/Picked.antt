@@ -1,12 +1,12 @@
 -- What step picks: the lowest channel with a block, and the frame that goes.
-use Rattle.std.specs.Prelude.{◌≡◌, ℕ, ◌≤◌, List, ◌∷◌, length, Some, None, Option}
+use Rattle.std.specs.Prelude.{◌≡◌, ℕ, ◌≤◌, false, not, List, ◌∷◌, length, Some, None, Option}
 use Rattle.poll.specs.Channel.{channels}
 use Rattle.poll.specs.declared.channel.Channel.{Channel}
 use Rattle.store.specs.Meaning.{Block, Meaning}
 use Rattle.ends.specs.Host as model
 use Rattle.ends.specs.Host.{lowest_below, general_poll, send_block_of, pick, next_request}
 use Rattle.host.specs.declared.host.stepping.Picked.{Picked}
-use Rattle.host.specs.Sent.{sent_request}
+use Rattle.host.specs.Sent.{asked_request}
 use Rattle.host.specs.Answers.{step_rule_of}
 
 -- the lowest channel that has a block, if one has
@@ -17,4 +17,4 @@ LowestIs w (Some c) = (1 ≤ length (w c.number)) × ((b : Block) (bs : List Blo
 -- the rule and the frame are those that the host's rules say
 pub record PickedBy (h : model.Host) (out : Meaning) (p : Picked) : Type 0 where
   pub rule : p.rule ≡ step_rule_of (pick h.block_refused h.poll_list out.waiting)
-  pub sent : sent_request p.sent ≡ next_request h out
+  pub asks : asked_request p.asked false (not h.last) ≡ next_request h out

@@ -1,8 +1,10 @@
--- The request that a kept frame is.
-use Rattle.std.specs.Prelude.{ℕ, Bool, false, take}
+-- The request that a frame of the host is.
+use Rattle.std.specs.Prelude.{ℕ, Bool}
 use Rattle.frame.specs.Frame.{general}
+use Rattle.frame.specs.Kinds.{Shown, shows}
 use Rattle.store.specs.Meaning.{Block, plain}
-use Rattle.ends.specs.Frames.{Request, poll, information}
+use Rattle.ends.specs.Frames.{Load, Request, poll, information, load_code, load_payload}
+use Rattle.host.specs.declared.sent.KeptBlock.{KeptBlock}
 use Rattle.host.specs.declared.sent.Asked.{Asked}
 use Rattle.host.specs.declared.sent.Asked.TheVariants as asked
 use Rattle.host.specs.declared.sent.Sent.{Sent}
@@ -13,13 +15,26 @@ poll_request c reset toggle = record { channel = c; reset = reset; toggle = togg
 abbrev pub block_request : ℕ → Bool → Bool → Block → Request
 block_request c reset toggle b = record { channel = c; reset = reset; toggle = toggle; load = information b }
 
-abbrev pub asked_request : Asked → Bool → Bool → Block → Request
-asked_request asked.GeneralPoll reset toggle b = poll_request general reset toggle
-asked_request (asked.ChannelPoll c) reset toggle b = poll_request c.number reset toggle
-asked_request (asked.Block c) reset toggle b = block_request c.number reset toggle b
+abbrev pub block_of : KeptBlock → Block
+block_of k = plain k.bytes.items
 
-abbrev pub block_in : Sent → Block
-block_in s = plain (take s.len s.bytes)
+-- whom a frame is for, and what it carries
+abbrev pub asked_channel : Asked → ℕ
+asked_channel asked.GeneralPoll = general
+asked_channel (asked.ChannelPoll c) = c.number
+asked_channel (asked.Block c k) = c.number
+
+abbrev pub asked_load : Asked → Load
+asked_load asked.GeneralPoll = poll
+asked_load (asked.ChannelPoll c) = poll
+asked_load (asked.Block c k) = information (block_of k)
+
+abbrev pub asked_request : Asked → Bool → Bool → Request
+asked_request a reset toggle = record { channel = asked_channel a; reset = reset; toggle = toggle; load = asked_load a }
 
 abbrev pub sent_request : Sent → Request
-sent_request s = asked_request s.asked false s.toggle (block_in s)
+sent_request s = asked_request s.asked s.reset s.toggle
+
+-- a load as a parsed frame shows it
+abbrev pub load_shows : Load → Shown
+load_shows l = shows (load_code l) (load_payload l)

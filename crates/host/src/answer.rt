@@ -9,11 +9,11 @@ use ends::name::BlockName;
 #[derive(Clone, Copy, PartialEq, Eq, Debug)]
 pub enum Cause {
     /// A frame has had all its repeats.
-    RepeatsUsed,
+    RepeatsUsed = 1,
     /// A frame out of sequence came, and none was to be expected any more.
-    SpareUsed,
+    SpareUsed = 2,
     /// A frame in sequence that does not answer the one sent.
-    WrongAnswer,
+    WrongAnswer = 3,
 }
 
 impl Cause {
@@ -21,11 +21,7 @@ impl Cause {
     pub fn number(self) -> u8
         ensures { result ≡ cause_number self }
     {
-        match self {
-            Cause::RepeatsUsed => 1,
-            Cause::SpareUsed => 2,
-            Cause::WrongAnswer => 3,
-        }
+        self as u8
     }
 }
 
@@ -54,16 +50,15 @@ pub struct Stepped {
     pub sent: usize,
 }
 
-/// What a timer did.
+/// What a timer did. Either is what the rules want of it, so they are no `Result`, in which one would be the error.
 pub enum Timed {
     /// It sent the frame again, of so many bytes.
     Repeated(usize),
     Down(Fall),
 }
 
-/// What a byte brought: no frame, or the rule that a frame met.
+/// The rule that a frame met.
 pub enum Heard {
-    More,
     Stale,
     Opened,
     Confirmed(BlockName),

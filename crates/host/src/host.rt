@@ -30,10 +30,9 @@ pub enum State {
     Down,
 }
 
-/// The host end.
+/// The link as the host keeps it: all but what it hears with.
 #[derive(Drop)]
-pub struct Host {
-    ear: Ear,
+pub struct Link {
     // how often a frame is repeated
     setting: u8,
     state: State,
@@ -50,8 +49,15 @@ pub struct Host {
     // whether the last answer taken refused a block
     refused: bool,
     counts: Counts,
-    // the frame on its way
+    // the frame on its way; `State` is handed out and copied, and a second enum of its cases to hold the frame would be no plainer
     sent: Sent,
     ghost few: { setting ≤ most_repeats },
+}
+
+/// The host end.
+#[derive(Drop)]
+pub struct Host {
+    ear: Ear,
+    link: Link,
     ghost from: { hears_tnc (heard_by ear).direction ≡ true },
 }

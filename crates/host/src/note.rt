@@ -2,7 +2,8 @@
 ghost use Rattle.std.specs.Prelude.{◌≡◌, ◌<◌};
 
 /// A doubtful block, by channel and number. It is written off or submitted again: it may not be let fall,
-/// and it is spent by either. Number 0 is the spent note; no block has it.
+/// and it is spent by either. Number 0 is the spent note; no block has it. Two plain numbers and a `drop` that demands 0 are
+/// the form that the project's rules name for such a note.
 pub struct DoubtNote {
     channel: u8,
     number: u32,

@@ -1,29 +1,33 @@
 // The frame that the host has sent, kept for its repeats.
-ghost use Rattle.std.specs.Prelude.{◌≡◌, ◌≤◌, length};
-ghost use Rattle.frame.specs.Frame.{longest_block};
+ghost use Rattle.std.specs.Prelude.{◌≤◌};
+ghost use Rattle.arrayvec.specs.ArrayVec.{array_vec_len};
 
+use arrayvec::ArrayVec;
 use frame::form::BLOCK;
 use poll::channel::Channel;
 
 pub mod sending;
 
+/// The bytes of a block on its way, as its store had them.
+#[derive(Drop)]
+pub struct KeptBlock {
+    bytes: ArrayVec<u8, BLOCK>,
+    ghost some: { 1 ≤ array_vec_len bytes },
+}
+
 /// What a frame of the host asks.
-#[derive(Clone, Copy)]
+#[derive(Drop)]
 pub enum Asked {
     GeneralPoll,
     ChannelPoll(Channel),
-    /// The TNC is to take a block on the channel.
-    Block(Channel),
+    /// The TNC is to take this block on the channel.
+    Block(Channel, KeptBlock),
 }
 
-/// The frame on its way: what it asks, its toggle, and the bytes of its block, if it has one.
-#[derive(Clone, Copy)]
+/// A frame of the host: what it asks, the reset flag and the toggle.
+#[derive(Drop)]
 pub struct Sent {
-    asked: Asked,
-    toggle: bool,
-    len: usize,
-    bytes: [u8; BLOCK],
-    ghost some: { 1 ≤ len },
-    ghost short: { len ≤ longest_block },
-    ghost whole: { length bytes ≡ longest_block },
+    pub(crate) asked: Asked,
+    pub(crate) reset: bool,
+    pub(crate) toggle: bool,
 }

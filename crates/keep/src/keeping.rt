@@ -1,75 +1,82 @@
 // The order kept in a store as it comes in: how many blocks wait there, and what they are when they are collected.
-use crate::named;
 use order::receive::{Event, Receiver};
 use order::send::CHANNEL;
+use order::words::Counted;
 use std::io;
 use store::Store;
 use store::drain::drain;
 
-/// Hears the line, keeps each block of the order in the store, and collects them.
-pub fn keep_order<S: Store>(
-    rt: &HostRuntime,
-    name: &str,
-    store: &mut S,
-    line: &[u8],
-    text: &[u8],
-) -> io::Result<()> {
-    let mut receiver = Receiver::new(rt.alloc());
-    let mut collected = Vec::new(rt.alloc());
-    for byte in line {
-        if let Ok(Event::Block(len, _)) = receiver.hear(*byte) {
-            let block = tail(receiver.order(), len);
-            keep(rt, name, store, block, &mut collected)?;
-        }
-    }
-    collect(rt, name, store, &mut collected)?;
-    let came = collected.len();
-    let bytes = named(came, "byte", "bytes");
-    if collected.as_slice() == text {
-        println!(rt; "{name}: {came} {bytes} collected, the same byte for byte.")
-    } else {
-        println!(rt; "{name}: {came} {bytes} collected, and not the order.")
-    }
+/// A store that keeps an order, by the name that is told of it, and what was collected from it.
+#[derive(Drop)]
+pub struct Keeper<'a, S> {
+    rt: &'a HostRuntime,
+    name: &'a str,
+    store: &'a mut S,
+    collected: Vec<u8>,
 }
 
-// Puts a block into the store; where the store is full, what waits there is collected first.
-fn keep<S: Store>(
-    rt: &HostRuntime,
-    name: &str,
-    store: &mut S,
-    block: &[u8],
-    collected: &mut Vec<u8>,
-) -> io::Result<()> {
-    if store.total() == store.limit() {
-        collect(rt, name, store, collected)?;
-    }
-    match store.put(CHANNEL, block) {
-        Ok(()) => Ok(()),
-        Err(refusal) => {
-            let number = refusal.number();
-            println!(rt; "{name}: a block is refused, {number}.")
+impl<'a, S: Store> Keeper<'a, S> {
+    pub fn new(rt: &'a HostRuntime, name: &'a str, store: &'a mut S) -> Keeper<'a, S> {
+        Keeper {
+            rt,
+            name,
+            store,
+            collected: Vec::new(rt.alloc()),
         }
     }
-}
 
-// Tells how many blocks wait, and collects them.
-fn collect<S: Store>(
-    rt: &HostRuntime,
-    name: &str,
-    store: &mut S,
-    collected: &mut Vec<u8>,
-) -> io::Result<()> {
-    let waiting = store.count(CHANNEL);
-    let limit = store.limit();
-    println!(rt;
-        "{name}: {waiting} of at most {limit} blocks wait on channel {CHANNEL}, and are collected."
-    )?;
-    drain(store, CHANNEL, collected)?;
-    Ok(())
+    /// Hears the line, keeps each block of the order in the store, and collects them.
+    pub fn keep(mut self, line: &[u8], text: &[u8]) -> io::Result<()> {
+        let mut receiver = Receiver::new(self.rt.alloc());
+        for byte in line {
+            if let Ok(Event::Block(len, _)) = receiver.hear(*byte) {
+                self.put(tail(receiver.order(), len))?;
+            }
+        }
+        self.collect()?;
+        self.conclude(text)
+    }
+
+    // Tells whether what was collected is the order.
+    fn conclude(&self, text: &[u8]) -> io::Result<()> {
+        let name = self.name;
+        let came = Counted::bytes(self.collected.len());
+        if self.collected.as_slice() == text {
+            println!(self.rt; "{name}: {came} collected, the same byte for byte.")
+        } else {
+            println!(self.rt; "{name}: {came} collected, and not the order.")
+        }
+    }
+
+    // Puts a block into the store; where the store is full, what waits there is collected first.
+    fn put(&mut self, block: &[u8]) -> io::Result<()> {
+        if self.store.total() == self.store.limit() {
+            self.collect()?;
+        }
+        match self.store.put(CHANNEL, block) {
+            Ok(()) => Ok(()),
+            Err(refusal) => println!(self.rt;
+                "{}: a block is refused, {}.",
+                self.name,
+                refusal.number()
+            ),
+        }
+    }
+
+    // Tells how many blocks wait, and collects them.
+    fn collect(&mut self) -> io::Result<()> {
+        println!(self.rt;
+            "{}: {} of at most {} blocks wait on channel {CHANNEL}, and are collected.",
+            self.name,
+            self.store.count(CHANNEL),
+            self.store.limit()
+        )?;
+        drain(self.store, CHANNEL, &mut self.collected)?;
+        Ok(())
+    }
 }
 
 // The last so many bytes of a text.
 fn tail(text: &[u8], len: usize) -> &[u8] {
-    let n = text.len();
-    &text[n.saturating_sub(len)..n]
+    &text[text.len().saturating_sub(len)..]
 }

@@ -3,12 +3,11 @@
 
 mod keeping;
 
-use crate::keeping::keep_order;
+use crate::keeping::Keeper;
 use order::send::send;
 use shelf::Shelf;
 use std::io;
 use std::io::Read;
-use strip::refusal::check;
 use strip::{RECORD, Strip};
 
 // The area of the strip that the order is kept in: room for four blocks.
@@ -19,28 +18,20 @@ fn main(rt: HostRuntime) -> io::Result<()> {
     rt.stdin().read_to_end(&mut text)?;
     match send(rt.alloc(), text.as_slice()) {
         Ok(line) => keep(&rt, text.as_slice(), line.as_slice()),
-        Err(_) => println!(rt; "The order was not sent: there is no memory for it."),
+        Err(error) => println!(rt; "The order was not sent: {error}."),
     }
 }
 
 // Keeps the order in a store of each kind, and collects it.
 fn keep(rt: &HostRuntime, text: &[u8], line: &[u8]) -> io::Result<()> {
     let mut shelf = Shelf::new();
-    keep_order(rt, "Shelf", &mut shelf, line, text)?;
+    Keeper::new(rt, "Shelf", &mut shelf).keep(line, text)?;
     let mut area = [0; AREA];
-    match check(&area) {
-        Ok(()) => {
-            let mut strip = Strip::new(&mut area);
-            keep_order(rt, "Strip", &mut strip, line, text)
-        }
+    match Strip::over(&mut area) {
+        Ok(mut strip) => Keeper::new(rt, "Strip", &mut strip).keep(line, text),
         Err(refusal) => {
             let number = refusal.number();
             println!(rt; "No strip is made of {AREA} bytes: refusal {number}.")
         }
     }
-}
-
-/// The word for so many.
-pub fn named(n: usize, one: &'static str, many: &'static str) -> &'static str {
-    if n == 1 { one } else { many }
 }

@@ -1,5 +1,6 @@
 -- Laws of the blocks of a text: how many they are, which they are, and that they join to the text.
-use Rattle.std.proofs.Common.{◌≡◌, ℕ, zero, suc, ◌+◌, ◌-◌, ◌*◌, ◌/◌, ◌<◌, ◌≤◌, min, List, [], ◌++◌, length, get_or, take, drop, sym, refl, ap, ◌∙◌, inl, inr, arith, length-drop, length-take, take_all, drop-drop, take-add}
+use Rattle.std.proofs.Common.{◌≡◌, ℕ, zero, suc, ◌+◌, ◌-◌, ◌*◌, ◌/◌, ◌<◌, ◌≤◌, min, List, [], ◌∷◌, ◌++◌, length, get_or, take, drop, sym, refl, ap, ap₂, ◌∙◌, inl, inr, arith, length-append, length-drop, length-take, take_all, take_at, drop-drop, take-add}
+use Rattle.std.proofs.lemmas.List.{drop_all, drop_at, nil_from_length, take_min}
 use Rattle.std.proofs.lemmas.Bool.{cases_lt}
 use Rattle.std.specs.List.{flat_map}
 use Rattle.order.specs.Blocks.{first_blocks, blocks_of, Whole, BlockAt}
@@ -36,34 +37,42 @@ whole text =
     let n : ℕ = (length text + 255) / 256 in
     joined_first n text ∙ take_all (256 * n) text (omega arith)
 
--- no more is taken than there is
-cut : (n m : ℕ) (xs : List ℕ) → m ≡ min n (length xs) → take m xs ≡ take n xs
-cut n m xs e = elim (cases_lt n (length xs)) [
-  | inl h ↦ let same : m ≡ n = omega arith in ap (λ (k : ℕ). take k xs) same
-  | inr h ↦ take_all m xs (omega arith) ∙ sym (take_all n xs h)
-]
-
 -- what is taken from a block's start on is the block
-pub block_at : (text : List ℕ) (k m : ℕ) → 256 * k < length text → m ≡ min 256 (length text - 256 * k)
-    → BlockAt text k (take m (drop (256 * k) text))
+pub block_at : (text : List ℕ) (k : ℕ) → 256 * k < length text → BlockAt text k (take 256 (drop (256 * k) text))
 unfolding blocks_of
-block_at text k m h e =
+block_at text k h =
     let rest : List ℕ = drop (256 * k) text in
     let n : length rest ≡ length text - 256 * k = length-drop (256 * k) text in
-    let same : take m rest ≡ take 256 rest = cut 256 m rest (omega arith) in
     record {
-      listed = same ∙ sym (get_or_first ((length text + 255) / 256) k text (omega arith));
-      bytes = same;
-      some = omega (arith, length-take m rest);
-      few = omega (arith, length-take m rest);
+      listed = sym (get_or_first ((length text + 255) / 256) k text (omega arith));
+      bytes = refl;
+      some = omega (arith, length-take 256 rest);
+      few = omega (arith, length-take 256 rest);
     }
+
+-- what is cut off in front of a text is its first block, and the rest has the others
+pub front_is : (text b rest : List ℕ) → text ≡ b ++ rest → length b ≡ min 256 (length text) → take 256 text ≡ b
+front_is text b rest e n = sym (ap (λ (k : ℕ). take k text) n ∙ take_min 256 text) ∙ ap (take (length b)) e ∙ take_at b rest (length b) refl
+
+pub cut_off : (text b rest : List ℕ) → text ≡ b ++ rest → length b ≡ min 256 (length text) → 0 < length text → blocks_of text ≡ b ∷ blocks_of rest
+unfolding blocks_of first_blocks
+cut_off text b rest e n some =
+    let l = ap length e ∙ length-append b rest in
+    let count : (length text + 255) / 256 ≡ suc ((length rest + 255) / 256) = omega arith in
+    let back : drop 256 text ≡ rest = elim (cases_lt (length b) 256) [
+      | inl less ↦ drop_all 256 text (omega arith) ∙ sym (nil_from_length rest (omega arith))
+      | inr full ↦ ap (drop 256) e ∙ drop_at b rest 256 (omega arith)
+    ] in
+    ap (λ (k : ℕ). first_blocks k text) count ∙ ap₂ (λ (x y : List ℕ). x ∷ first_blocks ((length rest + 255) / 256) y) (front_is text b rest e n) back
+
+pub none_left : (text : List ℕ) → length text ≡ 0 → blocks_of text ≡ []
+unfolding blocks_of first_blocks
+none_left text h = ap blocks_of (nil_from_length text h)
 
 -- each block has 1 to 256 bytes
 pub sizes : (text : List ℕ) (k : ℕ) → k < length (blocks_of text) → (1 ≤ length (get_or (blocks_of text) k [])) × (length (get_or (blocks_of text) k []) ≤ 256)
 sizes text k h =
     let n = count_is text in
-    let b = block_at text k (min 256 (length text - 256 * k)) (omega arith) refl in
+    let b = block_at text k (omega arith) in
     let same = ap length b.listed in
-    let low = b.some in
-    let high = b.few in
-    (omega arith, omega arith)
+    (omega (arith, b.some), omega (arith, b.few))

@@ -1,6 +1,5 @@
 -- A block that the writer framed is the wire form of its frame, and the blocks on the line follow one another.
-use Rattle.std.proofs.Common.{◌≡◌, ℕ, ◌+◌, ◌<◌, ◌≤◌, List, [], ◌∷◌, ◌++◌, length, get_or, take, drop, Ok, Err, Result, sym, refl, ap, ◌∙◌, subst, inl, append_assoc, append-nil, arith, take_at}
-use Rattle.std.proofs.lemmas.List.{drop_more, drop_all}
+use Rattle.std.proofs.Common.{◌≡◌, ℕ, ◌+◌, ◌≤◌, List, [], ◌∷◌, ◌++◌, length, take, drop, Ok, Err, Result, sym, refl, ap, ◌∙◌, subst, inl, append_assoc, append-nil, arith, take_at}
 use Rattle.frame.specs.declared.form.Direction.TheVariants.{FromHost}
 use Rattle.frame.specs.declared.form.Form.{Form}
 use Rattle.frame.specs.declared.form.Form.TheVariants.{Counted}
@@ -38,13 +37,13 @@ framed_from number block before after (Err ShortWire) h w = absurd (omega arith)
 framed_from number block before after (Err BadPayload) h w = (refl, λ c. w.1 _ (body_of_block number block c))
 
 -- one block more on the line
-pub line_more : (line after : List ℕ) (blocks : List (List ℕ)) (n : ℕ) (b : List ℕ) (all : List ℕ) → n < length blocks → b ≡ get_or blocks n []
-    → line ++ line_from n (drop n blocks) ≡ all → after ≡ line ++ piece_of n b → after ++ line_from (n + 1) (drop (n + 1) blocks) ≡ all
-line_more line after blocks n b all h e i a =
-    let rest : List ℕ = line_from (n + 1) (drop (n + 1) blocks) in
-    let d : drop n blocks ≡ b ∷ drop (n + 1) blocks = drop_more blocks n [] h ∙ ap (λ (x : List ℕ). x ∷ drop (n + 1) blocks) (sym e) in
-    ap (λ (l : List ℕ). l ++ rest) a ∙ append_assoc line (piece_of n b) rest ∙ ap (λ (l : List ℕ). line ++ l) (sym (ap (line_from n) d)) ∙ i
+pub line_more : (line after : List ℕ) (n m : ℕ) (b : List ℕ) (blocks rest : List (List ℕ)) (all : List ℕ)
+    → line ++ line_from n blocks ≡ all → blocks ≡ b ∷ rest → after ≡ line ++ piece_of n b → m ≡ n + 1 → after ++ line_from m rest ≡ all
+line_more line after n m b blocks rest all i e a k =
+    let split : line ++ line_from n blocks ≡ line ++ (piece_of n b ++ line_from (n + 1) rest) = ap (λ (bs : List (List ℕ)). line ++ line_from n bs) e in
+    let joined = append_assoc line (piece_of n b) (line_from (n + 1) rest) in
+    cc
 
 -- no block is left
-pub line_done : (line : List ℕ) (blocks : List (List ℕ)) (n : ℕ) (all : List ℕ) → length blocks ≤ n → line ++ line_from n (drop n blocks) ≡ all → line ≡ all
-line_done line blocks n all h i = sym (append-nil line) ∙ sym (ap (λ (bs : List (List ℕ)). line ++ line_from n bs) (drop_all n blocks h)) ∙ i
+pub line_done : (line : List ℕ) (n : ℕ) (blocks : List (List ℕ)) (all : List ℕ) → blocks ≡ [] → line ++ line_from n blocks ≡ all → line ≡ all
+line_done line n blocks all e i = sym (append-nil line) ∙ sym (ap (λ (bs : List (List ℕ)). line ++ line_from n bs) e) ∙ i

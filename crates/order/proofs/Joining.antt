@@ -1,5 +1,5 @@
 -- The body of a sent block shows that block and its toggle, and no other.
-use Rattle.std.proofs.Common.{◌≡◌, ℕ, Bool, true, false, List, ◌++◌, length, Some, Ok, Err, sym, refl, ap, ◌∙◌, arith}
+use Rattle.std.proofs.Common.{◌≡◌, ℕ, Bool, false, List, ◌++◌, length, Some, Ok, Err, sym, ap, ◌∙◌, arith}
 use Rattle.frame.specs.declared.form.Form.{Form}
 use Rattle.frame.specs.declared.form.Form.TheVariants.{Counted}
 use Rattle.frame.specs.Frame.{Frame, body_of, code_byte_of}
@@ -11,14 +11,7 @@ use Rattle.order.proofs.Framing.{body_of_block}
 
 -- the toggle of a code byte
 toggle_of_code : (s r t : Bool) → code_byte_of 0 false s ≡ code_byte_of 0 r t → t ≡ s
-toggle_of_code true true true e = refl
-toggle_of_code true false true e = refl
-toggle_of_code false true false e = refl
-toggle_of_code false false false e = refl
-toggle_of_code true true false e = absurd (omega arith)
-toggle_of_code true false false e = absurd (omega arith)
-toggle_of_code false true true e = absurd (omega arith)
-toggle_of_code false false true e = absurd (omega arith)
+toggle_of_code s r t e = grind arith
 
 -- what the body of a sent block shows
 only : (number : ℕ) (block : List ℕ) (toggle : Bool) (shown : List ℕ) → Shows (Some (body_for number block)) toggle shown

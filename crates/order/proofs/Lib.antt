@@ -3,4 +3,3 @@ mod Cutting
 mod Framing
 mod Joining
 mod Passing
-mod Shown

@@ -3,3 +3,4 @@ pub mod Blocks
 pub mod Noise
 pub mod Sent
 pub mod Received
+pub mod Words

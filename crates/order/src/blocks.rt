@@ -20,7 +20,5 @@ pub fn block(text: &[u8], number: usize) -> Option<&[u8]>
     if number >= n.div_ceil(BLOCK) {
         return None;
     }
-    let start = BLOCK * number;
-    let end = start + BLOCK.min(n - start);
-    Some(&text[start..end])
+    text[BLOCK * number..].chunks(BLOCK).next()
 }

@@ -6,3 +6,4 @@ pub mod line;
 pub mod noise;
 pub mod receive;
 pub mod send;
+pub mod words;

@@ -58,7 +58,7 @@ pub(crate) fn noise(
         Disturbance::FalseCode => Vec::from_slice(heap, &FALSE_CODE),
         Disturbance::DamagedCopy => damaged(heap, wire),
         Disturbance::StrayMark => marked(heap, wire),
-        Disturbance::CutFrame => Vec::from_slice(heap, &wire[0..wire.len() / 2]),
+        Disturbance::CutFrame => Vec::from_slice(heap, &wire[..wire.len() / 2]),
         Disturbance::Repeat => Vec::from_slice(heap, wire),
     }
 }
@@ -68,8 +68,8 @@ fn damaged(heap: Global, wire: &[u8]) -> Result<Vec<u8>, AllocError>
     ensures { IfOk result (λ v. v.items ≡ damaged_of wire.now) }
 {
     let mut copy = Vec::from_slice(heap, wire)?;
-    if DAMAGED < wire.len() {
-        copy[DAMAGED] = wire[DAMAGED] ^ 1;
+    if let Some(b) = copy.get_mut(DAMAGED) {
+        *b ^= 1;
     }
     Ok(copy)
 }
@@ -78,10 +78,10 @@ fn damaged(heap: Global, wire: &[u8]) -> Result<Vec<u8>, AllocError>
 fn marked(heap: Global, wire: &[u8]) -> Result<Vec<u8>, AllocError>
     ensures { IfOk result (λ v. v.items ≡ marked_of wire.now) }
 {
-    let n = wire.len();
-    let mut copy = Vec::from_slice(heap, &wire[0..n / 2])?;
+    let (front, back) = wire.split_at(wire.len() / 2);
+    let mut copy = Vec::from_slice(heap, front)?;
     copy.extend_from_slice(&STRAY)?;
-    copy.extend_from_slice(&wire[n / 2..n])?;
+    copy.extend_from_slice(back)?;
     Ok(copy)
 }
 

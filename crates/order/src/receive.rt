@@ -1,13 +1,12 @@
 // The modem's end: hears the line a byte at a time, and puts the order together.
 ghost use Rattle.std.specs.Prelude.{◌≡◌, ℕ, Bool, List, [], None, Decides, MatchOption};
-ghost use Rattle.std.specs.Option.{option_map};
 ghost use Rattle.reader.specs.Read.{meaning, fresh, passed, hears};
 ghost use Rattle.order.specs.declared.receive.HearError.TheVariants.{Line, NoMemory};
 ghost use Rattle.order.specs.Received.{kept, Shows, Takes, Hears, Joins};
 
 use crate::send::CHANNEL;
 use frame::form::Direction;
-use frame::frames::HostFrame;
+use frame::frames::{HostFrame, read};
 use frame::head::Head;
 use reader::fault::Fault;
 use reader::reader::Reader;
@@ -112,7 +111,7 @@ impl Receiver {
         ensures reader { meaning self.new.reader ≡ meaning self.old.reader }
         ensures answer { Takes (passed (meaning self.old.reader)) (kept self.old) (kept self.new) result }
     {
-        let Some(shown) = shown_in(self.reader.body()) else {
+        let Some(shown) = shown_by(&self.reader) else {
             return Ok(Event::Other);
         };
         if self.last == Some(shown.toggle) {
@@ -124,16 +123,16 @@ impl Receiver {
     }
 }
 
-// The block that a body shows; none unless it is information on the order's channel.
-fn shown_in<'a>(body: Option<&'a [u8]>) -> Option<Shown<'a>>
-    ensures { MatchOption result ((toggle : Bool) (block : List ℕ) → Shows (option_map (λ x. x.now) body.entry) toggle block → ⊥) (λ s. Shows (option_map (λ x. x.now) body.entry) s.toggle s.bytes.now) }
+// The block that the reader shows; none unless the body that passed is information on the order's channel.
+fn shown_by(reader: &Reader) -> Option<Shown<'_>>
+    ensures { MatchOption result ((toggle : Bool) (block : List ℕ) → Shows (passed (meaning reader.now)) toggle block → ⊥) (λ s. Shows (passed (meaning reader.now)) s.toggle s.bytes.now) }
 {
-    let body = body?;
+    let body = reader.body()?;
     let head = Head::of(body)?;
     if head.address.byte() != CHANNEL {
         return None;
     }
-    match HostFrame::of(body)? {
+    match read(body)? {
         HostFrame::Information(bytes) => Some(Shown {
             toggle: head.toggle,
             bytes,

@@ -1,20 +1,23 @@
 // The terminal's end: the blocks of an order, framed and put on the line.
-ghost use Rattle.std.specs.Prelude.{◌≡◌, IfOk, MatchResult};
+ghost use Rattle.std.specs.Prelude.{◌≡◌, Some, IfOk, MatchResult};
 ghost use Rattle.order.specs.declared.send.SendError.TheVariants.{Refused, NoMemory};
 ghost use Rattle.order.specs.Sent.{HeadFor, Framed, Sends, line_of, PassesAll};
+ghost use Rattle.order.specs.Words.{why_not_sent};
 
-use crate::blocks::{block, block_count};
 use crate::line::{disturb, turn};
+use frame::form::BLOCK;
 use frame::frames::HostFrame;
 use frame::head::{Address, Head};
 use poll::channel::Channel;
 use std::alloc::{AllocError, Global};
-use wire::writer::{Refusal, WIRE, write_host};
+use std::error::Error;
+use std::fmt;
+use wire::writer::{Refusal, WIRE, write};
 
 /// The channel that orders go by.
 pub const CHANNEL: u8 = 33;
 
-/// Why an order is not sent.
+/// Why an order is not sent. `HearError` has this shape too; one generic type for both would lose the names `Refused` and `Line`.
 #[derive(Clone, Copy, Debug)]
 pub enum SendError {
     /// No frame carries the block.
@@ -38,25 +41,36 @@ impl From<AllocError> for SendError {
     }
 }
 
+impl fmt::Display for SendError {
+    ghost output = { λ e. Some (why_not_sent e) };
+
+    fn fmt<W: fmt::Write>(&self, f: &mut fmt::Formatter<W>) -> fmt::Result {
+        f.write_str(match self {
+            SendError::Refused(_) => "no frame carries a block of it",
+            SendError::NoMemory => "there is no memory for it",
+        })
+    }
+}
+
+impl Error for SendError {}
+
 /// The head of a block's frame: the toggles alternate, and the first is 0.
 pub(crate) fn head_for(number: usize) -> Head
     ensures { HeadFor number result }
 {
-    let Some(channel) = Channel::new(CHANNEL) else {
-        unreachable()
-    };
     Head {
-        address: Address::Channel(channel),
+        address: Address::Channel(Channel::new(CHANNEL).unwrap()),
         reset: false,
         toggle: number % 2 == 1,
     }
 }
 
-// Frames a block, and answers the length of its wire form.
+// Frames a block, and answers the length of its wire form. (Number and bytes are no struct: two functions take both, and
+// one of them only hands them on.)
 fn framed(number: usize, bytes: &[u8], wire: &mut [u8; WIRE]) -> Result<usize, Refusal>
     ensures { Framed number bytes.now wire.new result }
 {
-    write_host(head_for(number), HostFrame::Information(bytes), wire)
+    write(head_for(number), HostFrame::Information(bytes), wire)
 }
 
 /// Puts one block on the line, with its noise before it. The block passes any reader with the last byte.
@@ -71,7 +85,7 @@ pub(crate) fn send_block(
 {
     let mut wire = [0; WIRE];
     let n = framed(number, bytes, &mut wire)?;
-    disturb(heap, turn(number), &wire[0..n], line)?;
+    disturb(heap, turn(number), &wire[..n], line)?;
     Ok(())
 }
 
@@ -81,10 +95,7 @@ pub fn send(heap: Global, text: &[u8]) -> Result<Vec<u8>, SendError>
     ensures passes { IfOk result (λ v. PassesAll text.now v.items) }
 {
     let mut line = Vec::new(heap);
-    for number in 0..block_count(text) {
-        let Some(bytes) = block(text, number) else {
-            unreachable()
-        };
+    for (number, bytes) in text.chunks(BLOCK).enumerate() {
         send_block(heap, number, bytes, &mut line)?;
     }
     Ok(line)

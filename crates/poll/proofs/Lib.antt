@@ -1,4 +1,3 @@
 -- The lemmas on poll lists.
 pub mod ListLaws
-pub mod ListLeft
 pub mod ListSeen

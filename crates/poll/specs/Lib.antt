@@ -1,3 +1,4 @@
 -- The definitions that the contracts on channels and poll lists cite.
 pub mod Channel
+pub mod Short
 pub mod List

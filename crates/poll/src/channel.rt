@@ -23,6 +23,8 @@ pub struct Listed {
     ghost high: { value ≤ channels },
 }
 
+// `new` answers an Option, as that of `NonZero` does: each caller has a refusal of its own for a bad number. And no `From`
+// stands between the two types: it would be public, and they turn into each other in poll lists alone.
 impl Channel {
     /// The channel of that number; none above 63.
     pub fn new(number: u8) -> Option<Channel>

@@ -1,26 +1,22 @@
 // Poll lists: the list that a modem writes, and the list left to poll that a terminal reads from it.
 // The methods stand in `lists`, since their clauses name these types.
 ghost use Rattle.std.specs.Prelude.{◌≤◌};
-ghost use Rattle.poll.specs.Channel.{channels as channel_count};
 
-use crate::channel::{CHANNELS, Channel};
+use crate::channel::Channel;
+use crate::short::ShortList;
 
 pub mod lists;
 
-/// The channels that are left to poll, first to last: those from `next` on, below `len`.
+/// The channels that are left to poll, first to last: those from `next` on.
 #[derive(Clone, Copy, Debug)]
 pub struct PollList {
-    channels: [Channel; CHANNELS],
+    channels: ShortList<Channel>,
     next: usize,
-    len: usize,
-    ghost left: { next ≤ len },
-    ghost few: { len ≤ channel_count },
+    ghost left: { next ≤ channels.len },
 }
 
 /// A poll list as it is written: listed values, ascending.
 #[derive(Clone, Copy, Debug)]
 pub struct ListText {
-    values: [u8; CHANNELS],
-    len: usize,
-    ghost few: { len ≤ channel_count },
+    values: ShortList<u8>,
 }

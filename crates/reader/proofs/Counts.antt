@@ -1,23 +1,17 @@
 -- One wire form for each frame, and the counts of faults.
-use Rattle.std.proofs.Common.{◌≡◌, ℕ, zero, suc, ◌+◌, ◌<◌, ◌≤◌, Bool, true, false, cond, eqb, ltb, List, [], ◌∷◌, ◌++◌, length, get_or, Some, None, Ok, Err, Option, Result, sym, refl, ap, ◌∙◌, subst, ⊎_elim, append_assoc, arith, length-append}
+use Rattle.std.proofs.Common.{◌≡◌, ℕ, zero, suc, ◌+◌, ◌<◌, ◌≤◌, Bool, true, false, cond, eqb, List, [], ◌∷◌, ◌++◌, length, get_or, Some, None, Err, Option, sym, refl, ap, ◌∙◌, subst, ⊎_elim, append_assoc, arith, length-append}
 use Rattle.std.proofs.lemmas.List.{get_or_append_left}
 use Rattle.std.proofs.lemmas.Bool.{cases_Bool, cases_lt, eqb-false, ne_eqb}
-use Rattle.fcs.specs.Fcs.{extended, register_of, residue}
 use Rattle.frame.specs.declared.form.Direction.{Direction}
 use Rattle.frame.specs.declared.form.Form.{Form}
 use Rattle.frame.specs.Frame.{form_of, code_in, Frame, Body}
 use Rattle.wire.specs.Wire.{stuffed, wire_of}
 use Rattle.reader.specs.declared.fault.Fault.{Fault}
-use Rattle.reader.specs.declared.fault.Reason.{Reason}
-use Rattle.reader.specs.declared.fault.Reason.TheVariants.{StrayMark, BadChannel, UnknownCode, EndlessText, BadChecksum, NewFrame}
 use Rattle.reader.specs.declared.state.Part.{Part}
 use Rattle.reader.specs.declared.state.Part.TheVariants.{Code, Count, Block, Text, Low, High}
-use Rattle.reader.specs.declared.state.Heard.{Heard}
-use Rattle.reader.specs.declared.state.Heard.TheVariants.{More}
-use Rattle.reader.specs.declared.state.Heard.TheVariants as heard
 use Rattle.reader.specs.declared.state.State.{State}
 use Rattle.reader.specs.declared.state.State.TheVariants.{Waiting, Marked, Started, Inside, Escaped, Passed}
-use Rattle.reader.specs.Read.{Meaning, Next, at, fresh, passed_at, goes, fault_of, is_channel, with_channel, with_code, with_byte, hears_at}
+use Rattle.reader.specs.Read.{Meaning, fresh, passed_at, goes, with_code, with_byte, hears_at}
 use Rattle.reader.specs.Laws.{Bytes, after, OneWireForm, FromChannel, CountsRaw}
 use Rattle.reader.proofs.Runs.{direction_kept}
 use Rattle.reader.proofs.Tracks.{held, Under, TracksAt, Tracks, run_tracks}
@@ -28,11 +22,11 @@ tracked d bytes fits = run_tracks [] bytes (fresh d) tt fits
 
 ends : (d : Direction) (heard body : List ℕ) (s : State) (bs : List ℕ) (n : ℕ) → TracksAt d heard s bs n → passed_at s bs ≡ Some body
     → (front : List ℕ) × (f : Frame) × (heard ≡ front ++ wire_of body) × Body d body f
-ends d heard body Waiting bs n h e = let z : ◌≡◌ {A = ℕ} 0 1 = cc in absurd (omega arith)
-ends d heard body Marked bs n h e = let z : ◌≡◌ {A = ℕ} 0 1 = cc in absurd (omega arith)
-ends d heard body Started bs n h e = let z : ◌≡◌ {A = ℕ} 0 1 = cc in absurd (omega arith)
-ends d heard body (Inside p) bs n h e = let z : ◌≡◌ {A = ℕ} 0 1 = cc in absurd (omega arith)
-ends d heard body (Escaped p) bs n h e = let z : ◌≡◌ {A = ℕ} 0 1 = cc in absurd (omega arith)
+ends d heard body Waiting bs n h e = absurd (cc)
+ends d heard body Marked bs n h e = absurd (cc)
+ends d heard body Started bs n h e = absurd (cc)
+ends d heard body (Inside p) bs n h e = absurd (cc)
+ends d heard body (Escaped p) bs n h e = absurd (cc)
 ends d heard body Passed bs n h e =
     let same : bs ≡ body = cc in
     (h.0, h.2.0, h.1 ∙ ap (λ (b : List ℕ). h.0 ++ wire_of b) same, subst (λ (b : List ℕ). Body d b h.2.0) same h.2.1)
@@ -44,48 +38,27 @@ one_wire_form d bytes body fits e =
     (r.0, r.1, r.2, subst (λ (x : Direction). Body x body r.1) (direction_kept (fresh d) bytes) r.3)
 
 -- Each fault of a byte has that count.
-abbrev Faults : ℕ → Next → Type 0
-Faults n x = (e : Fault) → x.says ≡ Err e → e.count ≡ n
+code_faults : (d : Direction) (o : Option Form) (bs : List ℕ) (n : ℕ) (e : Fault) → (with_code d o bs n).says ≡ Err e → e.count ≡ n
+code_faults d None bs n e q = grind arith
+code_faults d (Some m) bs n e q = absurd (cc)
 
-either : (n : ℕ) (t : Bool) (x y : Next) → Faults n x → Faults n y → Faults n (cond t x y)
-either n true x y p q = p
-either n false x y p q = q
+byte_faults : (d : Direction) (p : Part) (bs : List ℕ) (n b : ℕ) (e : Fault) → (with_byte d p bs n b).says ≡ Err e → e.count ≡ n
+byte_faults d Code bs n b e q = code_faults d (form_of d (code_in b)) (bs ++ b ∷ []) n e q
+byte_faults d Count bs n b e q = absurd (cc)
+byte_faults d (Block k) bs n b e q = absurd (cc)
+byte_faults d Text bs n b e q = grind arith
+byte_faults d Low bs n b e q = absurd (cc)
+byte_faults d (High low) bs n b e q = grind arith
+
+inside_faults : (d : Direction) (p : Part) (bs : List ℕ) (n b : ℕ) (e : Fault) → (hears_at d (Inside p) bs n b).says ≡ Err e → e.count ≡ n + 1
+inside_faults d p bs n b e q = grind (arith, byte_faults d p bs (n + 1) b e)
+
+escaped_faults : (d : Direction) (p : Part) (bs : List ℕ) (n b : ℕ) (e : Fault) → (hears_at d (Escaped p) bs n b).says ≡ Err e → e.count ≡ n + 1
+escaped_faults d p bs n b e q = grind (arith, byte_faults d p bs (n + 1) 170 e)
 
 -- no fault is said where more is to come
-silent : (e : Fault) → ◌≡◌ {A = Result Heard Fault} (Ok More) (Err e) → ⊥
-silent e q = let z : ◌≡◌ {A = ℕ} 0 1 = cc in omega arith
-
 quiet : (t : Bool) (x y : Meaning) (e : Fault) → (cond t (goes x) (goes y)).says ≡ Err e → ⊥
-quiet true x y e q = silent e q
-quiet false x y e q = silent e q
-
-calm : (n : ℕ) (e : Fault) → ◌≡◌ {A = Result Heard Fault} (Ok More) (Err e) → e.count ≡ n
-calm n e q = absurd (silent e q)
-
-passing : (n : ℕ) (e : Fault) → ◌≡◌ {A = Result Heard Fault} (Ok heard.Frame) (Err e) → e.count ≡ n
-passing n e q = let z : ◌≡◌ {A = ℕ} 0 1 = cc in absurd (omega arith)
-
-fault : (reason : Reason) (n : ℕ) (e : Fault) → ◌≡◌ {A = Result Heard Fault} (Err (fault_of reason n)) (Err e) → e.count ≡ n
-fault reason n e q = let same : fault_of reason n ≡ e = cc in sym (ap (λ (x : Fault). x.count) same)
-
-code_faults : (d : Direction) (o : Option Form) (bs : List ℕ) (n : ℕ) → Faults n (with_code d o bs n)
-code_faults d None bs n = fault UnknownCode n
-code_faults d (Some m) bs n = calm n
-
-byte_faults : (d : Direction) (p : Part) (bs : List ℕ) (n b : ℕ) → Faults n (with_byte d p bs n b)
-byte_faults d Code bs n b = code_faults d (form_of d (code_in b)) (bs ++ b ∷ []) n
-byte_faults d Count bs n b = calm n
-byte_faults d (Block k) bs n b = calm n
-byte_faults d Text bs n b = either n (eqb b 0) _ _ (calm n) (either n (ltb (length bs) 257) _ _ (calm n) (fault EndlessText n))
-byte_faults d Low bs n b = calm n
-byte_faults d (High low) bs n b = either n (eqb (extended (register_of bs) (low ∷ b ∷ [])) residue) _ _ (passing n) (fault BadChecksum n)
-
-inside_faults : (d : Direction) (p : Part) (bs : List ℕ) (n b : ℕ) → Faults (n + 1) (hears_at d (Inside p) bs n b)
-inside_faults d p bs n b = either (n + 1) (eqb b 170) _ _ (calm (n + 1)) (byte_faults d p bs (n + 1) b)
-
-escaped_faults : (d : Direction) (p : Part) (bs : List ℕ) (n b : ℕ) → Faults (n + 1) (hears_at d (Escaped p) bs n b)
-escaped_faults d p bs n b =
-    either (n + 1) (eqb b 170) _ _ (fault NewFrame (n + 1)) (either (n + 1) (eqb b 0) _ _ (byte_faults d p bs (n + 1) 170) (fault StrayMark (n + 1)))
+quiet t x y e q = grind arith
 
 -- in stuffed bytes a 00 follows each AA
 abbrev Followed : List ℕ → Type 0
@@ -155,12 +128,12 @@ under_counted d p bs n heard extra y e u few c =
 started_counted : (d : Direction) (heard : List ℕ) (b : ℕ) (e : Fault) → TracksAt d heard Started [] 0 → (hears_at d Started [] 0 b).says ≡ Err e → Counted (heard ++ b ∷ []) e
 started_counted d heard b e h q =
     ⊎_elim
-    (λ t. absurd (silent e (sym (ap (λ (u : Bool). (cond u (goes (at d Started [] 0)) (with_channel d b)).says) t) ∙ q)))
+    (λ t. absurd (grind arith))
     (λ f. (
       h.0,
       b ∷ [],
       ap (λ (l : List ℕ). l ++ b ∷ []) h.1 ∙ append_assoc h.0 (170 ∷ 170 ∷ []) (b ∷ []),
-      sym (either 1 (eqb b 170) _ _ (calm 1) (either 1 (is_channel b) _ _ (calm 1) (fault BadChannel 1)) e q),
+      grind arith,
       record { some = omega arith; first = eqb-false b 170 f; no_start = λ k l x y. omega arith },
     ))
     (cases_Bool (eqb b 170))

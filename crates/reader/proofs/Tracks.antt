@@ -1,7 +1,7 @@
 -- What a reader that began fresh knows of the bytes it has heard: the line ends in AA AA and the stuffed bytes of the frame so far.
 use Rattle.std.proofs.Common.{◌≡◌, ℕ, suc, ◌+◌, ◌-◌, ◌<◌, ◌≤◌, Bool, true, false, cond, eqb, ltb, leb, List, [], ◌∷◌, ◌++◌, length, get_or, Some, None, Option, sym, refl, ap, ◌∙◌, subst, ap₂, inl, inr, ⊎_elim, append_assoc, append-nil, arith, length-append}
 use Rattle.std.proofs.lemmas.List.{get_or_append_left, get_or_at}
-use Rattle.std.proofs.lemmas.Bool.{cases_lt, eqb-true, eqb-false, ltb-true, ltb-false}
+use Rattle.std.proofs.lemmas.Bool.{cases_lt, cond_both, eqb-true, eqb-false, ltb-true, ltb-false}
 use Rattle.std.proofs.lemmas.Bool.Decides.{nat_tests}
 use Rattle.fcs.specs.Fcs.{extended, register_of, residue, check_of}
 use Rattle.fcs.proofs.Extended.{extended_fits}
@@ -21,24 +21,19 @@ use Rattle.reader.specs.State.{part_of}
 use Rattle.reader.specs.Read.{Meaning, Next, is_channel, with_channel, with_code, with_byte, hears_at, hears}
 use Rattle.reader.specs.Laws.{Bytes, after}
 
--- one element more
+-- what holds of each element holds with one more that it holds of
+all_push : (P : ℕ → Type 0) (xs : List ℕ) (b : ℕ) → ((k : ℕ) → k < length xs → P (get_or xs k 0)) → P b
+    → (k : ℕ) → k < length (xs ++ b ∷ []) → P (get_or (xs ++ b ∷ []) k 0)
+all_push P xs b h here k l = elim (cases_lt k (length xs)) [
+  | inl less ↦ subst P (sym (get_or_append_left xs (b ∷ []) 0 k less)) (h k less)
+  | inr more ↦ subst P (sym (get_or_at xs b [] 0 k (omega (arith, length-append xs (b ∷ []))))) here
+]
+
 pub bytes_push : (xs : List ℕ) (b : ℕ) → Bytes xs → b < 256 → Bytes (xs ++ b ∷ [])
-bytes_push xs b h fits k l =
-    ⊎_elim
-    (λ less. subst (λ (x : ℕ). x < 256) (sym (get_or_append_left xs (b ∷ []) 0 k less)) (h k less))
-    (λ more.
-    let e : length xs ≡ k = omega (arith, length-append xs (b ∷ [])) in
-    subst (λ (x : ℕ). x < 256) (sym (get_or_at xs b [] 0 k e)) fits)
-    (cases_lt k (length xs))
+bytes_push xs b h fits = all_push (λ x. x < 256) xs b h fits
 
 no_zero_push : (xs : List ℕ) (b : ℕ) → NoZero xs → (b ≡ 0 → ⊥) → NoZero (xs ++ b ∷ [])
-no_zero_push xs b h some k l z =
-    ⊎_elim
-    (λ less. h k less (sym (get_or_append_left xs (b ∷ []) 0 k less) ∙ z))
-    (λ more.
-    let e : length xs ≡ k = omega (arith, length-append xs (b ∷ [])) in
-    some (sym (get_or_at xs b [] 0 k e) ∙ z))
-    (cases_lt k (length xs))
+no_zero_push xs b h some = all_push (λ x. x ≡ 0 → ⊥) xs b h some
 
 -- a frame's bytes up to a part: channel and code byte, and then the rest
 record Headed (d : Direction) (m : Form) (bs rest : List ℕ) : Type 0 where
@@ -127,9 +122,8 @@ TracksAt d heard Passed bs n = (front : List ℕ) × (heard ≡ front ++ wire_of
 abbrev pub Tracks : List ℕ → Meaning → Type 0
 Tracks heard m = TracksAt m.direction heard m.state m.bytes m.raw
 
-choose : (h : List ℕ) (t : Bool) (x y : Next) → (t ≡ true → Tracks h x.then) → (t ≡ false → Tracks h y.then) → Tracks h (cond t x y).then
-choose h true x y p q = p refl
-choose h false x y p q = q refl
+abbrev TracksNext : List ℕ → Next → Type 0
+TracksNext heard x = Tracks heard x.then
 
 -- the line and the count, one byte of the frame on: y is the last raw byte of b's wire form
 line_more : (d : Direction) (p : Part) (bs : List ℕ) (n : ℕ) (heard extra : List ℕ) (b y : ℕ) (u : Under d p bs n heard extra) → stuff b ≡ extra ++ y ∷ []
@@ -254,13 +248,13 @@ byte_step d Count bs n heard extra b y u e fits =
 byte_step d (Block k) bs n heard extra b y u e fits = block_step d k bs n heard extra b y (ltb 1 k) u e fits refl
 byte_step d Text bs n heard extra b y u e fits =
     let s = u.partly in
-    choose (heard ++ y ∷ []) (eqb b 0) _ _
+    cond_both (eqb b 0) _ _ (TracksNext (heard ++ y ∷ []))
     (λ t.
     grows d Text Low bs n heard extra b y u e fits refl refl
     (whole d form.Text (bs ++ b ∷ []) s.text
     (subst (λ (x : ℕ). Headed d form.Text (bs ++ b ∷ []) (s.text ++ x ∷ [])) (eqb-true b 0 t) (headed_push d form.Text bs s.text b s.headed))
     (s.short, s.none)))
-    (λ f. choose (heard ++ y ∷ []) (ltb (length bs) 257) _ _
+    (λ f. cond_both (ltb (length bs) 257) _ _ (TracksNext (heard ++ y ∷ []))
     (λ t.
     let less = ltb-true (length bs) 257 t in
     let l = ap length s.headed.bytes_are in
@@ -274,7 +268,7 @@ byte_step d Text bs n heard extra b y u e fits =
     (λ g. tt))
 byte_step d Low bs n heard extra b y u e fits = holds d bs n heard extra b y u e fits
 byte_step d (High low) bs n heard extra b y u e fits =
-    choose (heard ++ y ∷ []) (eqb (extended (register_of bs) (low ∷ b ∷ [])) residue) _ _
+    cond_both (eqb (extended (register_of bs) (low ∷ b ∷ [])) residue) _ _ (TracksNext (heard ++ y ∷ []))
     (λ t. passes d bs low n heard extra b y u e fits (eqb-true (extended (register_of bs) (low ∷ b ∷ [])) residue t))
     (λ f. tt)
 
@@ -282,7 +276,7 @@ byte_step d (High low) bs n heard extra b y u e fits =
 channel_step : (d : Direction) (heard : List ℕ) (b : ℕ) → TracksAt d heard Started [] 0 → b < 256 → eqb b 170 ≡ false → Tracks (heard ++ b ∷ []) (with_channel d b).then
 channel_step d heard b h fits f =
     let ne = eqb-false b 170 f in
-    choose (heard ++ b ∷ []) (is_channel b) _ _
+    cond_both (is_channel b) _ _ (TracksNext (heard ++ b ∷ []))
     (λ t.
     let one : stuffed (b ∷ []) ≡ b ∷ [] = stuffed_one b ∙ ap (λ (u : Bool). cond u (b ∷ 0 ∷ []) (b ∷ [])) f in
     record {
@@ -304,14 +298,14 @@ channel_step d heard b h fits f =
         (cases_lt b 64)
 
 pub step_tracks : (heard : List ℕ) (d : Direction) (s : State) (bs : List ℕ) (n b : ℕ) → TracksAt d heard s bs n → b < 256 → Tracks (heard ++ b ∷ []) (hears_at d s bs n b).then
-step_tracks heard d Waiting bs n b h fits = choose (heard ++ b ∷ []) (eqb b 170) _ _ (λ t. (heard, ap (λ (x : ℕ). heard ++ x ∷ []) (eqb-true b 170 t))) (λ f. tt)
-step_tracks heard d Passed bs n b h fits = choose (heard ++ b ∷ []) (eqb b 170) _ _ (λ t. (heard, ap (λ (x : ℕ). heard ++ x ∷ []) (eqb-true b 170 t))) (λ f. tt)
+step_tracks heard d Waiting bs n b h fits = cond_both (eqb b 170) _ _ (TracksNext (heard ++ b ∷ [])) (λ t. (heard, ap (λ (x : ℕ). heard ++ x ∷ []) (eqb-true b 170 t))) (λ f. tt)
+step_tracks heard d Passed bs n b h fits = cond_both (eqb b 170) _ _ (TracksNext (heard ++ b ∷ [])) (λ t. (heard, ap (λ (x : ℕ). heard ++ x ∷ []) (eqb-true b 170 t))) (λ f. tt)
 step_tracks heard d Marked bs n b h fits =
-    choose (heard ++ b ∷ []) (eqb b 170) _ _
+    cond_both (eqb b 170) _ _ (TracksNext (heard ++ b ∷ []))
     (λ t. (h.0, ap₂ (λ (l : List ℕ) (x : ℕ). l ++ x ∷ []) h.1 (eqb-true b 170 t) ∙ append_assoc h.0 (170 ∷ []) (170 ∷ [])))
     (λ f. tt)
 step_tracks heard d Started bs n b h fits =
-    choose (heard ++ b ∷ []) (eqb b 170) _ _
+    cond_both (eqb b 170) _ _ (TracksNext (heard ++ b ∷ []))
     (λ t. (
       h.0 ++ 170 ∷ [],
       ap₂ (λ (l : List ℕ) (x : ℕ). l ++ x ∷ []) h.1 (eqb-true b 170 t)
@@ -319,7 +313,7 @@ step_tracks heard d Started bs n b h fits =
     ))
     (λ f. channel_step d heard b h fits f)
 step_tracks heard d (Inside p) bs n b h fits =
-    choose (heard ++ b ∷ []) (eqb b 170) _ _
+    cond_both (eqb b 170) _ _ (TracksNext (heard ++ b ∷ []))
     (λ t. escapes t)
     (λ f. byte_step d p bs n heard [] b b h (ap (λ (u : Bool). cond u (b ∷ 0 ∷ []) (b ∷ [])) f) fits)
   where
@@ -338,7 +332,7 @@ step_tracks heard d (Inside p) bs n b h fits =
           partly = h.partly;
         }
 step_tracks heard d (Escaped p) bs n b h fits =
-    choose (heard ++ b ∷ []) (eqb b 170) _ _
+    cond_both (eqb b 170) _ _ (TracksNext (heard ++ b ∷ []))
     (λ t. (
       h.front ++ (170 ∷ 170 ∷ stuffed (bs ++ held p)),
       ap₂ (λ (l : List ℕ) (x : ℕ). l ++ x ∷ []) h.line (eqb-true b 170 t)
@@ -346,7 +340,7 @@ step_tracks heard d (Escaped p) bs n b h fits =
           ∙ ap (λ (l : List ℕ). h.front ++ (170 ∷ 170 ∷ l)) (append_assoc (stuffed (bs ++ held p)) (170 ∷ []) (170 ∷ []))
           ∙ sym (append_assoc h.front (170 ∷ 170 ∷ stuffed (bs ++ held p)) (170 ∷ 170 ∷ [])),
     ))
-    (λ f. choose (heard ++ b ∷ []) (eqb b 0) _ _
+    (λ f. cond_both (eqb b 0) _ _ (TracksNext (heard ++ b ∷ []))
     (λ t. subst (λ (x : ℕ). Tracks (heard ++ x ∷ []) (with_byte d p bs (n + 1) 170).then) (sym (eqb-true b 0 t))
     (byte_step d p bs n heard (170 ∷ []) 170 0 h refl (omega arith)))
     (λ g. tt))

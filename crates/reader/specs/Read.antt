@@ -1,5 +1,5 @@
 -- What a reader makes of each byte: one step for every state and byte.
-use Rattle.std.specs.Prelude.{ℕ, ◌+◌, ◌-◌, Bool, true, cond, List, [], ◌∷◌, ◌++◌, length, take, Some, None, Ok, Err, Option, Result, ◌==◌, nat_le, nat_lt}
+use Rattle.std.specs.Prelude.{ℕ, ◌+◌, ◌-◌, Bool, true, cond, List, [], ◌∷◌, ◌++◌, length, Some, None, Ok, Err, Option, Result, ◌==◌, nat_le, nat_lt}
 use Rattle.fcs.specs.Fcs.{extended, register_of, residue}
 use Rattle.frame.specs.declared.form.Direction.{Direction}
 use Rattle.frame.specs.declared.form.Form.{Form}
@@ -30,7 +30,7 @@ abbrev pub at : Direction → State → List ℕ → ℕ → Meaning
 at d s bs n = record { direction = d; state = s; bytes = bs; raw = n }
 
 abbrev pub meaning : Reader → Meaning
-meaning r = at r.direction r.state (take r.len r.body) r.raw
+meaning r = at r.direction r.state r.body r.raw
 
 abbrev pub fresh : Direction → Meaning
 fresh d = at d Waiting [] 0

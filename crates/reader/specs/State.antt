@@ -1,5 +1,5 @@
 -- The parts of a frame, and what each state of a reader leaves room for.
-use Rattle.std.specs.Prelude.{ℕ, ◌+◌, ◌-◌, max}
+use Rattle.std.specs.Prelude.{ℕ, ◌+◌, ◌-◌, ◌*◌, ◌≤◌, max}
 use Rattle.frame.specs.Frame.{longest_body}
 use Rattle.frame.specs.declared.form.Form.{Form}
 use Rattle.frame.specs.declared.form.Form.TheVariants as form
@@ -47,3 +47,8 @@ outside Started = 0
 outside (Inside p) = outside_of p
 outside (Escaped p) = outside_of p + 1
 outside Passed = 0
+
+-- a reader may stand so after that many bytes of a body and that many raw bytes
+pub record Stands (state : State) (len raw : ℕ) : Type 0 where
+  pub fits : len + room state ≤ longest_body
+  pub counted : raw ≤ 2 * len + outside state

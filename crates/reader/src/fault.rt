@@ -1,6 +1,8 @@
 // What a reader refuses, as one value that passes up whole.
-ghost use Rattle.std.specs.Prelude.{◌≡◌};
-ghost use Rattle.reader.specs.Fault.{fault_number};
+ghost use Rattle.std.specs.Prelude.{◌≡◌, Some};
+ghost use Rattle.reader.specs.Fault.{fault_number, words_of};
+
+use std::fmt;
 
 /// The place of a check. Those above the reader add their own.
 #[derive(Clone, Copy, PartialEq, Eq, Debug)]
@@ -12,16 +14,31 @@ pub enum Layer {
 #[derive(Clone, Copy, PartialEq, Eq, Debug)]
 pub enum Reason {
     /// In a frame, AA before neither 00 nor AA.
-    StrayMark,
+    StrayMark = 1,
     /// The channel byte is neither 0 to 63 nor FF.
-    BadChannel,
+    BadChannel = 2,
     /// The direction does not know the code.
-    UnknownCode,
+    UnknownCode = 3,
     /// The 256th byte of a text is not 00.
-    EndlessText,
-    BadChecksum,
+    EndlessText = 4,
+    BadChecksum = 5,
     /// AA AA after a channel byte: a new frame begins.
-    NewFrame,
+    NewFrame = 6,
+}
+
+impl fmt::Display for Reason {
+    ghost output = { λ r. Some (words_of r) };
+
+    fn fmt<W: fmt::Write>(&self, f: &mut fmt::Formatter<W>) -> fmt::Result {
+        f.write_str(match self {
+            Reason::StrayMark => "a stray AA inside the frame",
+            Reason::BadChannel => "no such channel",
+            Reason::UnknownCode => "no such kind of frame",
+            Reason::EndlessText => "a text without an end",
+            Reason::BadChecksum => "the checksum is wrong",
+            Reason::NewFrame => "a new frame began before this one ended",
+        })
+    }
 }
 
 /// A fault: where it was found, why, and how many raw bytes there were from the channel byte to the faulty one.
@@ -36,13 +53,6 @@ impl Fault {
     pub fn number(self) -> u8
         ensures { result ≡ fault_number self.reason }
     {
-        match self.reason {
-            Reason::StrayMark => 1,
-            Reason::BadChannel => 2,
-            Reason::UnknownCode => 3,
-            Reason::EndlessText => 4,
-            Reason::BadChecksum => 5,
-            Reason::NewFrame => 6,
-        }
+        self.reason as u8
     }
 }

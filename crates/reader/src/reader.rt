@@ -1,9 +1,8 @@
 // The reader's fields. Its methods stand in `hears`, since their clauses name it.
-ghost use Rattle.std.specs.Prelude.{◌≡◌, ◌+◌, ◌*◌, ◌≤◌, take};
-ghost use Rattle.fcs.specs.Fcs.{register_of};
-ghost use Rattle.frame.specs.Frame.{longest_body};
-ghost use Rattle.reader.specs.State.{room, outside};
+ghost use Rattle.std.specs.Prelude.{length};
+ghost use Rattle.reader.specs.State.{Stands};
 
+use crate::body::Body;
 use crate::state::State;
 use frame::form::Direction;
 
@@ -17,13 +16,8 @@ pub const BODY: usize = 259;
 pub struct Reader {
     direction: Direction,
     state: State,
-    body: [u8; BODY],
-    len: usize,
-    // the checksum's register over the body so far
-    register: u16,
+    body: Body,
     // the raw bytes since the channel byte
     raw: u16,
-    ghost fits: { len + room state ≤ longest_body },
-    ghost counted: { raw ≤ 2 * len + outside state },
-    ghost summed: { register ≡ register_of (take len body) },
+    ghost stands: { Stands state (length body) raw },
 }

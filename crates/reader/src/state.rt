@@ -1,7 +1,6 @@
 // Where a reader stands between two bytes.
-ghost use Rattle.std.specs.Prelude.{◌≡◌, ◌-◌, ◌≤◌};
-ghost use Rattle.frame.specs.Frame.{longest_body};
-ghost use Rattle.reader.specs.State.{part_of, room_of, outside_of};
+ghost use Rattle.std.specs.Prelude.{◌≡◌};
+ghost use Rattle.reader.specs.State.{part_of};
 
 use frame::form::Form;
 
@@ -36,7 +35,7 @@ pub enum State {
     Passed,
 }
 
-/// What a byte brought.
+/// What a byte brought. Two names and no `Option` of the body, which would keep the reader lent while its answer lives.
 #[derive(Clone, Copy, PartialEq, Eq, Debug)]
 pub enum Heard {
     More,
@@ -44,13 +43,11 @@ pub enum Heard {
     Frame,
 }
 
-impl Part {
-    // What follows a code byte.
-    pub(crate) fn after_code(form: Form) -> Part
-        ensures value { result ≡ part_of form }
-        ensures room { room_of result ≤ longest_body - 2 }
-        ensures outside { outside_of result ≡ 0 }
-    {
+// What follows a code byte.
+impl From<Form> for Part {
+    ghost from_gives = { λ form part. part ≡ part_of form };
+
+    fn from(form: Form) -> Part {
         match form {
             Form::Bare => Part::Low,
             Form::Text => Part::Text,

@@ -2,35 +2,30 @@
 // what the shelf does at each call stands in `calls`.
 #![tactic(auto)]
 
-ghost use Rattle.std.specs.Prelude.{◌≡◌, ◌≤◌, length};
-ghost use Rattle.poll.specs.Channel.{last_channel};
+ghost use Rattle.std.specs.Prelude.{◌≤◌};
 ghost use Rattle.frame.specs.Frame.{longest_block};
-ghost use Rattle.shelf.specs.Size.{place_count};
+ghost use Rattle.arrayvec.specs.ArrayVec.{array_vec_len};
 
+use arrayvec::ArrayVec;
 use frame::form::BLOCK;
+use poll::channel::Channel;
 
 pub mod calls;
 
 /// How many places the shelf has.
 pub const PLACES: usize = 16;
 
-/// A place of the shelf with a block: its channel, its length, and its bytes from the start of the place.
-#[derive(Clone, Copy)]
+/// A block on the shelf, and the channel that it waits on.
+#[derive(Drop)]
 pub struct Place {
-    channel: u8,
-    len: usize,
-    bytes: [u8; BLOCK],
-    ghost low: { channel ≤ last_channel },
-    ghost some: { 1 ≤ len },
-    ghost short: { len ≤ longest_block },
-    ghost whole: { length bytes ≡ longest_block },
+    channel: Channel,
+    block: ArrayVec<u8, BLOCK>,
+    ghost some: { 1 ≤ array_vec_len block },
+    ghost short: { array_vec_len block ≤ longest_block },
 }
 
-/// The shelf: a store with places of its own. The first `used` hold the waiting blocks, in order of arrival.
+/// The shelf: a store with places of its own, in order of arrival.
 #[derive(Drop)]
 pub struct Shelf {
-    places: [Place; PLACES],
-    used: usize,
-    ghost room: { used ≤ place_count },
-    ghost all: { length places ≡ place_count },
+    places: ArrayVec<Place, PLACES>,
 }

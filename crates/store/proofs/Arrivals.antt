@@ -1,16 +1,18 @@
 -- A list in order of arrival, seen by channel; and how each call on it ends.
 -- A store that keeps such a list has its list after the call to show, and nothing of channels.
-use Rattle.std.proofs.Common.{◌≡◌, ℕ, ◌<◌, ◌≤◌, Bool, true, false, cond, eqb, List, [], ◌∷◌, ◌++◌, length, get_or, drop, Ok, Err, sym, refl, ap, ◌∙◌, inl, inr, arith}
+use Rattle.std.proofs.Common.{◌≡◌, ℕ, ◌<◌, ◌≤◌, Bool, true, false, cond, eqb, ltb, MatchResult, Result, Some, None, List, [], ◌∷◌, ◌++◌, length, get_or, drop, Ok, Err, sym, refl, ap, ◌∙◌, inl, inr, arith}
 use mathlib.Core.Path.{fun_ext}
-use Rattle.std.proofs.lemmas.Bool.{eq-eqb, ne_eqb, eqb-true, cond-true, cond-false, le-ltb, cases_eq}
+use Rattle.std.proofs.lemmas.Bool.{eq-eqb, ne_eqb, eqb-true, cond-true, cond-false, le-ltb, lt-ltb, cases_eq, cases_lt}
+use Rattle.std.specs.Option.{ok_or}
 use Rattle.std.proofs.lemmas.List.{append-nil}
 use Rattle.std.specs.List.{AllByRecursion, remove}
+use Rattle.store.specs.declared.refusal.Refusal.{Refusal}
 use Rattle.store.specs.declared.refusal.Refusal.TheVariants.{NoneWaiting, Full}
 use Rattle.poll.specs.Channel.{last_channel, channels}
 use Rattle.frame.specs.Frame.{longest_block}
 use Rattle.store.specs.Meaning.{Block, plain, replaced, waiting_below, total}
-use Rattle.store.specs.Rules.{if_granted, put_answer, put_after, first_answer, copy_source, length_of, written_over, granted, drop_answer, drop_after, shortened}
-use Rattle.store.specs.Arrival.{Entry, Storable, on, view, arrived, without, place_of}
+use Rattle.store.specs.Rules.{if_granted, put_answer, put_after, first_answer, first_waiting, copy_source, count_on, length_of, written_over, granted, drop_answer, drop_after, shortened}
+use Rattle.store.specs.Arrival.{Entry, Storable, on, view, arrived, without, place_of, IsFirst}
 use Rattle.store.proofs.Totals.{replaced_here, replaced_apart, below_none, below_replaced}
 use Rattle.store.proofs.Ways.{put_goes, put_stays}
 use Rattle.store.proofs.Places.{on_none, on_some, without_some}
@@ -30,29 +32,13 @@ on_append k (x ∷ xs) ys =
     as (λ b. cond b (x.block ∷ on k (xs ++ ys)) (on k (xs ++ ys)) ≡ cond b (x.block ∷ on k xs) (on k xs) ++ on k ys)
     [ true ↦ ap (λ (v : List Block). x.block ∷ v) (on_append k xs ys) | false ↦ on_append k xs ys ]
 
--- a block joins its channel's end wherever nothing of its channel comes after it: at the end of all, or of its own channel's part
-insert_at :
-    (k c : ℕ) (ls rs : List Entry) (b : Block) (t : Bool)
-    → eqb k c ≡ t
-    → on c rs ≡ []
-    → on k ls ++ cond t (b ∷ on k rs) (on k rs) ≡ cond t ((on c ls ++ on c rs) ++ b ∷ []) (on k ls ++ on k rs)
-insert_at k c ls rs b true e z =
-    ap (λ (j : ℕ). on j ls ++ b ∷ on j rs) (eqb-true k c e)
-    ∙ ap (λ (v : List Block). on c ls ++ b ∷ v) z
-    ∙ ap (λ (v : List Block). v ++ b ∷ []) (sym (append-nil (on c ls)))
-    ∙ ap (λ (v : List Block). (on c ls ++ v) ++ b ∷ []) (sym z)
-insert_at k c ls rs b false e z = refl
-
-pub view_insert :
-    (ls rs : List Entry) (c : ℕ) (b : Block)
-    → on c rs ≡ []
-    → view (ls ++ record { channel = c; block = b } ∷ rs) ≡ replaced (view (ls ++ rs)) c (on c (ls ++ rs) ++ b ∷ [])
-view_insert ls rs c b z =
-    fun_ext (λ k.
-    on_append k ls (record { channel = c; block = b } ∷ rs)
-    ∙ insert_at k c ls rs b (eqb k c) refl z
-    ∙ ap (λ (v : List Block). cond (eqb k c) (v ++ b ∷ []) (on k ls ++ on k rs)) (sym (on_append c ls rs))
-    ∙ ap (λ (v : List Block). cond (eqb k c) (on c (ls ++ rs) ++ b ∷ []) v) (sym (on_append k ls rs)))
+-- a block that comes last joins its channel's end
+pub view_push : (xs : List Entry) (c : ℕ) (b : Block) → view (xs ++ record { channel = c; block = b } ∷ []) ≡ replaced (view xs) c (on c xs ++ b ∷ [])
+view_push xs c b = fun_ext (λ k. on_append k xs (record { channel = c; block = b } ∷ []) ∙ at k (eqb k c) refl)
+  where
+    at : (k : ℕ) (t : Bool) → eqb k c ≡ t → on k xs ++ cond t (b ∷ []) [] ≡ cond t (on c xs ++ b ∷ []) (on k xs)
+    at k true e = ap (λ (j : ℕ). on j xs ++ b ∷ []) (eqb-true k c e)
+    at k false e = append-nil (on k xs)
 
 on_without : (c : ℕ) (xs : List Entry) → on c (without c xs) ≡ drop 1 (on c xs)
 on_without c [] = refl
@@ -92,90 +78,90 @@ total_arrived (x ∷ xs) n f =
     let i = total_arrived xs n f.1 in
     omega arith
 
--- put
-pub put_between :
-    (ls rs ys : List Entry) (n c : ℕ) (b : Block)
-    → AllByRecursion Storable (ls ++ rs)
-    → c ≤ last_channel
-    → (length b.bytes ≡ 0 → ⊥)
-    → length b.bytes ≤ longest_block
-    → (length (ls ++ rs) ≡ n → ⊥)
-    → on c rs ≡ []
-    → ys ≡ ls ++ record { channel = c; block = b } ∷ rs
-    → (put_answer (arrived (ls ++ rs) n) c b ≡ Ok tt) × (arrived ys n ≡ put_after (arrived (ls ++ rs) n) c b)
-put_between ls rs ys n c b storable low some short room z e =
-    let p = put_goes (arrived (ls ++ rs) n) c b low some short (λ q. room (sym (total_arrived (ls ++ rs) n storable) ∙ q)) in
-    let f : view ys ≡ replaced (view (ls ++ rs)) c (on c (ls ++ rs) ++ b ∷ []) = ap view e ∙ view_insert ls rs c b z in
-    (p.0, ap (λ (w : ℕ → List Block). record { waiting = w; limit = n }) f ∙ sym p.1)
+-- a channel's count is how many of its blocks arrived; above the highest none did
+none_above : (c : ℕ) (xs : List Entry) → AllByRecursion Storable xs → last_channel < c → on c xs ≡ []
+none_above c [] f high = refl
+none_above c (x ∷ xs) f high =
+    let low = f.0.channel_low in
+    cond-false _ _ _ (ne_eqb c x.channel (λ e. omega arith)) ∙ none_above c xs f.1 high
 
+pub count_arrived : (xs : List Entry) (n c : ℕ) → AllByRecursion Storable xs → length (on c xs) ≡ count_on (arrived xs n) c
+count_arrived xs n c f =
+    elim (cases_lt last_channel c) [
+      | inl high ↦ ap length (none_above c xs f high) ∙ sym (cond-true _ _ _ (lt-ltb last_channel c high))
+      | inr low ↦ sym (cond-false _ _ _ (le-ltb last_channel c low))
+    ]
+
+-- what a search for a channel's first block finds
+pub first_found :
+    (xs : List Entry) (n c i len : ℕ) (r : Result ℕ Refusal)
+    → c ≤ last_channel
+    → place_of c xs ≡ i
+    → length xs ≡ len
+    → r ≡ ok_or (cond (ltb i len) (Some i) None) NoneWaiting
+    → MatchResult r (IsFirst c xs) (λ e. first_waiting (arrived xs n) c ≡ Err e)
+first_found xs n c i len r low at long e =
+    elim (cases_lt i len) [
+      | inl h ↦ rw (e ∙ ap (λ o. ok_or o NoneWaiting) (cond-true _ _ _ (lt-ltb i len h))) (record { channel_low = low; here = omega arith; place = sym at })
+      | inr h ↦ rw (e ∙ ap (λ o. ok_or o NoneWaiting) (cond-false _ _ _ (le-ltb i len h))) (cond-false _ _ _ (le-ltb last_channel c low) ∙ ap first_answer (on_none c xs (omega arith)))
+    ]
+
+-- put
 pub put_granted :
     (xs ys : List Entry) (n c : ℕ) (b : Block)
     → AllByRecursion Storable xs
     → c ≤ last_channel
-    → (length b.bytes ≡ 0 → ⊥)
+    → 1 ≤ length b.bytes
     → length b.bytes ≤ longest_block
     → (length xs ≡ n → ⊥)
     → ys ≡ xs ++ record { channel = c; block = b } ∷ []
-    → (put_answer (arrived xs n) c b ≡ Ok tt) × (arrived ys n ≡ put_after (arrived xs n) c b)
+    → (Ok tt ≡ put_answer (arrived xs n) c b) × (arrived ys n ≡ put_after (arrived xs n) c b)
 put_granted xs ys n c b storable low some short room e =
-    rw append-nil at (put_between xs [] ys n c b (rw append-nil storable) low some short (rw append-nil room) refl e)
+    let p = put_goes (arrived xs n) c b low (λ z. omega arith) short (λ q. room (sym (total_arrived xs n storable) ∙ q)) in
+    (sym p.0, ap (λ (w : ℕ → List Block). record { waiting = w; limit = n }) (ap view e ∙ view_push xs c b) ∙ sym p.1)
 
 pub put_full :
     (xs : List Entry) (n c : ℕ) (b : Block)
     → AllByRecursion Storable xs
     → c ≤ last_channel
-    → (length b.bytes ≡ 0 → ⊥)
+    → 1 ≤ length b.bytes
     → length b.bytes ≤ longest_block
     → length xs ≡ n
-    → (put_answer (arrived xs n) c b ≡ Err Full) × (put_after (arrived xs n) c b ≡ arrived xs n)
-put_full xs n c b storable low some short full = put_stays (arrived xs n) c b low some short (total_arrived xs n storable ∙ full)
+    → (Err Full ≡ put_answer (arrived xs n) c b) × (arrived xs n ≡ put_after (arrived xs n) c b)
+put_full xs n c b storable low some short full =
+    let p = put_stays (arrived xs n) c b low (λ z. omega arith) short (total_arrived xs n storable ∙ full) in
+    (sym p.0, sym p.1)
 
--- drop-first
-pub drop_refused :
-    (xs : List Entry) (n c : ℕ) → c ≤ last_channel → place_of c xs ≡ length xs → (drop_answer (arrived xs n) c ≡ Err NoneWaiting) × (drop_after (arrived xs n) c ≡ arrived xs n)
-drop_refused xs n c low e =
-    let a : drop_answer (arrived xs n) c ≡ Err NoneWaiting = ap granted (cond-false _ _ _ (le-ltb last_channel c low) ∙ ap first_answer (on_none c xs e)) in
-    (a, ap (λ r. if_granted r (shortened (arrived xs n) c) (arrived xs n)) a)
+-- drop-first and copy-first, where the search found the first
+first_is : (xs : List Entry) (n c i : ℕ) (d : Entry) → IsFirst c xs i → first_waiting (arrived xs n) c ≡ Ok (get_or xs i d).block
+first_is xs n c i d f =
+    let low = f.channel_low in
+    let here = f.here in
+    let place = f.place in
+    cond-false _ _ _ (le-ltb last_channel c low) ∙ ap first_answer (on_some c xs d (omega arith)) ∙ ap (λ (j : ℕ). Ok (get_or xs j d).block) (sym place)
 
 pub drop_granted :
     (xs ys : List Entry) (n c i : ℕ)
-    → c ≤ last_channel
-    → i ≡ place_of c xs
-    → i < length xs
+    → IsFirst c xs i
     → ys ≡ remove xs i
-    → (drop_answer (arrived xs n) c ≡ Ok tt) × (arrived ys n ≡ drop_after (arrived xs n) c) × (ys ≡ without c xs)
-drop_granted xs ys n c i low at h e =
-    let l : place_of c xs < length xs = omega arith in
-    let d : Entry = record { channel = 0; block = plain [] } in
-    let a : drop_answer (arrived xs n) c ≡ Ok tt = ap granted (cond-false _ _ _ (le-ltb last_channel c low) ∙ ap first_answer (on_some c xs d l)) in
-    let g : ys ≡ without c xs = e ∙ ap (remove xs) at ∙ sym (without_some c xs l) in
-    let f : view ys ≡ replaced (view xs) c (drop 1 (on c xs)) = ap view g ∙ view_without xs c in
-    (a, ap (λ (w : ℕ → List Block). record { waiting = w; limit = n }) f ∙ sym (ap (λ r. if_granted r (shortened (arrived xs n) c) (arrived xs n)) a), g)
-
--- copy-first: what it answers and leaves in the buffer
-pub copied_none :
-    (xs : List Entry) (n c : ℕ) (old : List ℕ)
-    → longest_block ≤ length old
-    → c ≤ last_channel
-    → place_of c xs ≡ length xs
-    → (Err NoneWaiting ≡ length_of (copy_source (arrived xs n) c (length old))) × (old ≡ written_over (copy_source (arrived xs n) c (length old)) old)
-copied_none xs n c old big low e =
-    let s : copy_source (arrived xs n) c (length old) ≡ Err NoneWaiting =
-    cond-false _ _ _ (le-ltb (length old) longest_block big) ∙ cond-false _ _ _ (le-ltb last_channel c low) ∙ ap first_answer (on_none c xs e) in
-    (sym (ap length_of s), sym (ap (λ r. written_over r old) s))
+    → (Ok tt ≡ drop_answer (arrived xs n) c) × (arrived ys n ≡ drop_after (arrived xs n) c) × (ys ≡ without c xs)
+drop_granted xs ys n c i f e =
+    let here = f.here in
+    let place = f.place in
+    let a : drop_answer (arrived xs n) c ≡ Ok tt = ap granted (first_is xs n c i (record { channel = 0; block = plain [] }) f) in
+    let g : ys ≡ without c xs = e ∙ ap (remove xs) place ∙ sym (without_some c xs (omega arith)) in
+    let v : view ys ≡ replaced (view xs) c (drop 1 (on c xs)) = ap view g ∙ view_without xs c in
+    (sym a, ap (λ (w : ℕ → List Block). record { waiting = w; limit = n }) v ∙ sym (ap (λ r. if_granted r (shortened (arrived xs n) c) (arrived xs n)) a), g)
 
 pub copied :
-    (xs : List Entry) (n c : ℕ) (old new : List ℕ) (i k : ℕ) (d : Entry)
+    (xs : List Entry) (n c : ℕ) (old new : List ℕ) (i k : ℕ) (d x : Entry)
     → longest_block ≤ length old
-    → c ≤ last_channel
-    → i ≡ place_of c xs
-    → i < length xs
-    → k ≡ length (get_or xs i d).block.bytes
-    → new ≡ (get_or xs i d).block.bytes ++ drop (length (get_or xs i d).block.bytes) old
+    → IsFirst c xs i
+    → get_or xs i d ≡ x
+    → k ≡ length x.block.bytes
+    → new ≡ x.block.bytes ++ drop k old
     → (Ok k ≡ length_of (copy_source (arrived xs n) c (length old))) × (new ≡ written_over (copy_source (arrived xs n) c (length old)) old)
-copied xs n c old new i k d big low at h lk e =
-    let l : place_of c xs < length xs = omega arith in
-    let s : copy_source (arrived xs n) c (length old) ≡ Ok (get_or xs i d).block =
-    cond-false _ _ _ (le-ltb (length old) longest_block big) ∙ cond-false _ _ _ (le-ltb last_channel c low) ∙ ap first_answer (on_some c xs d l)
-    ∙ ap (λ (j : ℕ). Ok (get_or xs j d).block) (sym at) in
-    (ap (λ (j : ℕ). Ok j) lk ∙ sym (ap length_of s), e ∙ sym (ap (λ r. written_over r old) s))
+copied xs n c old new i k d x big f is lk e =
+    let s : copy_source (arrived xs n) c (length old) ≡ Ok x.block =
+    cond-false _ _ _ (le-ltb (length old) longest_block big) ∙ first_is xs n c i d f ∙ ap (λ (y : Entry). Ok y.block) is in
+    (ap (λ (j : ℕ). Ok j) lk ∙ sym (ap length_of s), e ∙ ap (λ (j : ℕ). x.block.bytes ++ drop j old) lk ∙ sym (ap (λ r. written_over r old) s))

@@ -1,5 +1,5 @@
 -- The meaning of a store that keeps its blocks in order of arrival, for stores that are made so.
-use Rattle.std.specs.Prelude.{ℕ, suc, ◌≤◌, cond, List, [], ◌∷◌, length, ◌==◌}
+use Rattle.std.specs.Prelude.{◌≡◌, ℕ, suc, ◌<◌, ◌≤◌, cond, List, [], ◌∷◌, length, ◌==◌}
 use Rattle.poll.specs.Channel.{last_channel}
 use Rattle.frame.specs.Frame.{longest_block}
 use Rattle.store.specs.Meaning.{Block, Meaning}
@@ -36,3 +36,9 @@ without c (x ∷ xs) = cond (c == x.channel) xs (x ∷ without c xs)
 abbrev pub place_of : ℕ → List Entry → ℕ
 place_of c [] = 0
 place_of c (x ∷ xs) = cond (c == x.channel) 0 (suc (place_of c xs))
+
+-- the first of channel c stands at index i among all
+pub record IsFirst (c : ℕ) (xs : List Entry) (i : ℕ) : Type 0 where
+  pub channel_low : c ≤ last_channel
+  pub here : i < length xs
+  pub place : i ≡ place_of c xs

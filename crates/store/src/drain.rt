@@ -12,11 +12,8 @@ pub fn drain<S: Store>(store: &mut S, channel: u8, text: &mut Vec<u8>) -> Result
 {
     let waiting = store.count(channel);
     let mut block = [0; BLOCK];
-    for i in 0..waiting {
-        let Ok(len) = store.copy_first(channel, &mut block) else {
-            unreachable()
-        };
-        text.extend_from_slice(&block[0..len])?;
+    while let Ok(len) = store.copy_first(channel, &mut block) {
+        text.extend_from_slice(&block[..len])?;
         let _ = store.drop_first(channel);
     }
     Ok(waiting)

@@ -2,19 +2,19 @@
 ghost use Rattle.std.specs.Prelude.{◌≡◌};
 ghost use Rattle.store.specs.Refusal.{refusal_number};
 
-/// Why a store refuses a call.
+/// Why a store refuses a call. Each case has its number.
 #[derive(Clone, Copy, PartialEq, Eq, Debug)]
 pub enum Refusal {
     /// The channel is above the highest.
-    BadChannel,
+    BadChannel = 10,
     /// The block has no byte, or more than a block may have.
-    BadLength,
+    BadLength = 11,
     /// As many blocks wait as the limit.
-    Full,
+    Full = 12,
     /// No block waits on the channel.
-    NoneWaiting,
+    NoneWaiting = 13,
     /// The buffer is shorter than the longest block.
-    ShortBuffer,
+    ShortBuffer = 14,
 }
 
 impl Refusal {
@@ -22,12 +22,6 @@ impl Refusal {
     pub fn number(self) -> u8
         ensures { result ≡ refusal_number self }
     {
-        match self {
-            Refusal::BadChannel => 10,
-            Refusal::BadLength => 11,
-            Refusal::Full => 12,
-            Refusal::NoneWaiting => 13,
-            Refusal::ShortBuffer => 14,
-        }
+        self as u8
     }
 }

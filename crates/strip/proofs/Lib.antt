@@ -1,3 +1,4 @@
 -- The lemmas on the strip.
-mod Records
+mod Laid
 mod Found
+mod Walk

@@ -1,5 +1,6 @@
 -- The records of a strip's area: channel, length less 1, bytes; back to back from the start.
-use Rattle.std.specs.Prelude.{ℕ, zero, suc, ◌+◌, ◌-◌, ◌/◌, Bool, true, ◌&&◌, List, [], ◌∷◌, ◌++◌, length, take, drop, nat_le, slice_index}
+use Rattle.std.specs.Prelude.{ℕ, zero, suc, ◌+◌, ◌-◌, ◌/◌, Bool, ◌&&◌, List, [], ◌∷◌, ◌++◌, length, take, drop, nat_le, slice_index}
+use Rattle.std.specs.List.{flat_map, list_all}
 use Rattle.poll.specs.Channel.{last_channel}
 use Rattle.frame.specs.Frame.{longest_block}
 use Rattle.store.specs.Meaning.{plain}
@@ -21,8 +22,7 @@ abbrev pub record_of : Entry → List ℕ
 record_of x = x.channel ∷ (length x.block.bytes - 1) ∷ x.block.bytes
 
 abbrev pub laid : List Entry → List ℕ
-laid [] = []
-laid (x ∷ xs) = record_of x ++ laid xs
+laid xs = flat_map record_of xs
 
 -- an area with records laid from its start, and the bytes past them as they were
 abbrev pub laid_over : List Entry → List ℕ → List ℕ
@@ -41,5 +41,4 @@ abbrev pub storable_test : Entry → Bool
 storable_test x = nat_le x.channel last_channel && (nat_le 1 (length x.block.bytes) && nat_le (length x.block.bytes) longest_block)
 
 abbrev pub all_storable : List Entry → Bool
-all_storable [] = true
-all_storable (x ∷ xs) = storable_test x && all_storable xs
+all_storable xs = list_all storable_test xs

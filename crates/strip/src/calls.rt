@@ -1,32 +1,21 @@
 // What the strip does at each call.
-ghost use Rattle.std.specs.Prelude.{◌≡◌, ◌<◌, ◌≤◌, [], ◌∷◌, ◌++◌, length, take, Ok};
+ghost use Rattle.std.specs.Prelude.{◌≡◌, ◌==◌, [], ◌∷◌, ◌++◌, length, Ok, Err, MatchResult};
+ghost use Rattle.std.specs.List.{find};
 ghost use Rattle.store.specs.Meaning.{plain, empty};
-ghost use Rattle.store.specs.Rules.{if_granted, put_answer, put_after, drop_answer, drop_after};
+ghost use Rattle.store.specs.Rules.{if_granted, put_answer, put_after, first_waiting, drop_answer, drop_after};
 ghost use Rattle.store.specs.Calls.{StoreLaws};
-ghost use Rattle.store.specs.Arrival.{place_of, without};
-ghost use Rattle.strip.specs.Records.{limit_of, laid, laid_over};
+ghost use Rattle.store.specs.Arrival.{without};
+ghost use Rattle.strip.specs.Records.{limit_of, laid_over};
 ghost use Rattle.strip.specs.Refusal.{check_answer};
-ghost use Rattle.strip.specs.Shown.{area_of, records, shown, HeadAt, FirstOn};
+ghost use Rattle.strip.specs.Walk.{placed, ahead};
+ghost use Rattle.strip.specs.Shown.{area_of, records, shown, FirstOn};
 
-use crate::{Area, RECORD, Strip};
-use frame::form::BLOCK;
-use poll::channel::LAST_CHANNEL;
-use store::Store;
+use crate::bytes::write;
+use crate::records::{Record, Records};
+use crate::refusal::{AreaRefusal, check};
+use crate::{HEAD, RECORD, Strip};
 use store::refusal::Refusal;
-
-/// A record by its index among those that are held, and where it begins.
-#[derive(Clone, Copy)]
-pub struct Found {
-    index: usize,
-    at: usize,
-}
-
-/// What stands before a record's block.
-#[derive(Clone, Copy)]
-pub struct RecordHead {
-    channel: u8,
-    len: usize,
-}
+use store::{Store, checks};
 
 impl<'a> Strip<'a> {
     /// An empty strip in an area that the check granted. The area stays as it is. The laws hold of every list of calls on it.
@@ -37,42 +26,45 @@ impl<'a> Strip<'a> {
         ensures laws { StoreLaws }
     {
         Strip {
-            area: Area { bytes: area },
+            area,
             used: 0,
             held: 0,
         }
     }
 
-    // What stands before the block of a record that begins at the place.
-    fn head(&self, found: Found) -> RecordHead
-        requires within { found.index < self.now.held }
-        requires here { found.at ≡ length (laid (take found.index (records self.now))) }
-        ensures { HeadAt self.now found result }
+    /// An empty strip in the area, or the refusal, 17, where none can be made of it. The rest is as of `new`.
+    pub fn over(area: &'a mut [u8]) -> Result<Strip<'a>, AreaRefusal>
+        ensures strip { MatchResult result (λ s. (check_answer (length area.old) ≡ Ok tt) × (shown s ≡ empty (limit_of (length area.old))) × (area_of s ≡ area.old)) (λ e. check_answer (length area.old) ≡ Err e) }
+        ensures laws { StoreLaws }
     {
-        let at = found.at;
-        RecordHead {
-            channel: self.area.bytes[at],
-            len: self.area.bytes[at + 1] as usize + 1,
+        check(area)?;
+        Ok(Strip::new(area))
+    }
+
+    // The records, first to last.
+    fn records(&self) -> Records<'_>
+        ensures { ahead result ≡ placed 0 (records self.now) }
+    {
+        Records {
+            rest: self.area,
+            at: 0,
+            left: self.held,
         }
     }
 
-    // A channel's first record; where it has none, the end of all.
-    fn first_on(&self, channel: u8) -> Found
-        ensures { FirstOn self.now channel result }
+    // Which record is a channel's first.
+    fn find(&self, channel: u8) -> Option<Record>
+        ensures { result ≡ find (λ r. r.channel == channel) (placed 0 (records self.now)) }
     {
-        let mut at = 0;
-        for index in 0..self.held {
-            let found = Found { index, at };
-            let head = self.head(found);
-            if head.channel == channel {
-                return found;
-            }
-            at += 2 + head.len;
-        }
-        Found {
-            index: self.held,
-            at,
-        }
+        self.records().find(|record| record.channel == channel)
+    }
+
+    // The same, or why there is none. Refuses 10, 13.
+    fn first_on(&self, channel: u8) -> Result<Record, Refusal>
+        ensures { MatchResult result (FirstOn self.now channel) (λ e. first_waiting (shown self.now) channel ≡ Err e) }
+    {
+        checks::channel(channel)?;
+        self.find(channel).ok_or(Refusal::NoneWaiting)
     }
 }
 
@@ -86,37 +78,23 @@ impl<'a> Store for Strip<'a> {
         ensures order { records self.new ≡ if_granted result (records self.old ++ record { channel = channel; block = plain block.now } ∷ []) (records self.old) }
         ensures area { area_of self.new ≡ laid_over (records self.new) (area_of self.old) }
     {
-        if channel > LAST_CHANNEL {
-            return Err(Refusal::BadChannel);
-        }
-        let n = block.len();
-        if n == 0 || n > BLOCK {
-            return Err(Refusal::BadLength);
-        }
-        if self.held == self.area.bytes.len() / RECORD {
+        checks::channel(channel)?;
+        checks::block(block)?;
+        if self.held == self.area.len() / RECORD {
             return Err(Refusal::Full);
         }
-        let at = self.used;
-        self.area.write(at, channel, block);
-        self.used = at + 2 + n;
+        write(self.area, self.used, channel, block);
+        self.used += block.len() + HEAD;
         self.held += 1;
         Ok(())
     }
 
     fn copy_first(&self, channel: u8, buffer: &mut [u8]) -> Result<usize, Refusal> {
-        if buffer.len() < BLOCK {
-            return Err(Refusal::ShortBuffer);
-        }
-        if channel > LAST_CHANNEL {
-            return Err(Refusal::BadChannel);
-        }
-        let found = self.first_on(channel);
-        if found.index == self.held {
-            return Err(Refusal::NoneWaiting);
-        }
-        let head = self.head(found);
-        self.area.copy(found.at + 2, head.len, buffer);
-        Ok(head.len)
+        checks::buffer(buffer)?;
+        let record = self.first_on(channel)?;
+        let start = record.at + HEAD;
+        buffer[..record.len].copy_from_slice(&self.area[start..start + record.len]);
+        Ok(record.len)
     }
 
     // Beside the interface's promises: the later records move down, and the bytes past the new end stay.
@@ -126,37 +104,18 @@ impl<'a> Store for Strip<'a> {
         ensures order { records self.new ≡ if_granted result (without channel (records self.old)) (records self.old) }
         ensures area { area_of self.new ≡ laid_over (records self.new) (area_of self.old) }
     {
-        if channel > LAST_CHANNEL {
-            return Err(Refusal::BadChannel);
-        }
-        let found = self.first_on(channel);
-        if found.index == self.held {
-            return Err(Refusal::NoneWaiting);
-        }
-        let head = self.head(found);
-        let at = found.at;
-        let next = at + 2 + head.len;
-        let end = self.used;
-        self.area.close(at, next, end);
-        self.used = at + (end - next);
+        let record = self.first_on(channel)?;
+        let next = record.at + HEAD + record.len;
+        self.area.copy_within(next..self.used, record.at);
+        self.used -= record.len + HEAD;
         self.held -= 1;
         Ok(())
     }
 
     fn count(&self, channel: u8) -> usize {
-        if channel > LAST_CHANNEL {
-            return 0;
-        }
-        let mut n = 0;
-        let mut at = 0;
-        for index in 0..self.held {
-            let head = self.head(Found { index, at });
-            if head.channel == channel {
-                n += 1;
-            }
-            at += 2 + head.len;
-        }
-        n
+        self.records()
+            .filter(|record| record.channel == channel)
+            .count()
     }
 
     fn total(&self) -> usize {
@@ -164,6 +123,6 @@ impl<'a> Store for Strip<'a> {
     }
 
     fn limit(&self) -> usize {
-        self.area.bytes.len() / RECORD
+        self.area.len() / RECORD
     }
 }

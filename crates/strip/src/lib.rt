@@ -1,5 +1,6 @@
 // The strip: a store in a given area, its records back to back in order of arrival. The types stand here, since
-// the definitions in specs/ name them; what the strip does at each call stands in `calls`, work on bytes in `bytes`.
+// the definitions in specs/ name them; what the strip does at each call stands in `calls`, how a record is written in
+// `bytes`, and how records are gone over in `records`.
 #![tactic(auto)]
 
 ghost use Rattle.std.specs.Prelude.{◌≡◌, ◌≤◌, true, ◌++◌, length, drop};
@@ -9,30 +10,29 @@ use frame::form::BLOCK;
 
 mod bytes;
 pub mod calls;
+mod records;
 pub mod refusal;
 
-/// The length of the longest record, and so of the shortest area: channel, length less 1, and the longest block.
-pub const RECORD: usize = BLOCK + 2;
+// What stands before a record's block: its channel, and its length less 1.
+const HEAD: usize = 2;
+
+/// The length of the longest record, and so of the shortest area.
+pub const RECORD: usize = HEAD + BLOCK;
 
 /// The length of the longest area.
 pub const LONGEST_AREA: usize = 65_536;
 
-/// The bytes that a strip works in.
-#[derive(Drop)]
-pub struct Area<'a> {
-    bytes: &'a mut [u8],
-}
-
-/// The strip: a store in a lent area. Its first `used` bytes are `held` whole records.
+/// The strip: a store in a lent area. Its first `used` bytes are `held` whole records. (Both numbers stand beside the area:
+/// it is the lender's, in fixed memory, and what it held before the first put is no record.)
 #[derive(Drop)]
 pub struct Strip<'a> {
-    area: Area<'a>,
+    area: &'a mut [u8],
     used: usize,
     held: usize,
-    ghost low: { record_size ≤ length area.bytes.now },
-    ghost high: { length area.bytes.now ≤ longest_area },
-    ghost room: { held ≤ limit_of (length area.bytes.now) },
-    ghost storable: { all_storable (parsed held area.bytes.now) ≡ true },
-    ghost long: { length (laid (parsed held area.bytes.now)) ≡ used },
-    ghost whole: { area.bytes.now ≡ laid (parsed held area.bytes.now) ++ drop used area.bytes.now },
+    ghost low: { record_size ≤ length area.now },
+    ghost high: { length area.now ≤ longest_area },
+    ghost room: { held ≤ limit_of (length area.now) },
+    ghost storable: { all_storable (parsed held area.now) ≡ true },
+    ghost long: { length (laid (parsed held area.now)) ≡ used },
+    ghost whole: { area.now ≡ laid (parsed held area.now) ++ drop used area.now },
 }

@@ -4,11 +4,11 @@ ghost use Rattle.strip.specs.Refusal.{refusal_number, check_answer};
 
 use crate::{LONGEST_AREA, RECORD};
 
-/// Why no strip is made of an area.
+/// Why no strip is made of an area. The case has its number.
 #[derive(Clone, Copy, PartialEq, Eq, Debug)]
 pub enum AreaRefusal {
     /// It has fewer than 258 or more than 65,536 bytes.
-    BadSize,
+    BadSize = 17,
 }
 
 impl AreaRefusal {
@@ -16,9 +16,7 @@ impl AreaRefusal {
     pub fn number(self) -> u8
         ensures { result ≡ refusal_number self }
     {
-        match self {
-            AreaRefusal::BadSize => 17,
-        }
+        self as u8
     }
 }
 

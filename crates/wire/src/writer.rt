@@ -1,12 +1,13 @@
 // The writer: frames of both directions in their wire form.
-ghost use Rattle.std.specs.Prelude.{◌≡◌, ℕ, ◌+◌, ◌<◌, ◌≤◌, ◌++◌, length};
+ghost use Rattle.std.specs.Prelude.{◌≡◌, ℕ, ◌+◌, ◌<◌, ◌≤◌, [], ◌∷◌, ◌++◌, length};
+ghost use Rattle.fcs.specs.Fcs.{check_of};
 ghost use Rattle.frame.specs.Frame.{code_byte_of};
 ghost use Rattle.frame.specs.Head.{framed};
-ghost use Rattle.frame.specs.Kinds.{shows, host_shows, tnc_shows};
+ghost use Rattle.frame.specs.Kinds.{shows};
 ghost use Rattle.wire.specs.Wire.{stuff, stuffed, wire_of, over, refusal_number, Writes, WireIsShort, Lays};
 
-use frame::form::{Direction, Form};
-use frame::frames::{HostFrame, TncFrame};
+use frame::form::Form;
+use frame::frames::Parsed;
 use frame::head::Head;
 
 /// The shortest buffer that a frame is written to. No wire form is longer.
@@ -19,58 +20,33 @@ pub const MARK: u8 = 0xaa;
 #[derive(Clone, Copy, PartialEq, Eq, Debug)]
 pub enum Refusal {
     /// The wire buffer has fewer than 521 bytes.
-    ShortWire,
+    ShortWire = 14,
     /// No frame of this kind carries the payload: a block of 0 or above 256 bytes, a text above 255 or with a 00 inside.
-    BadPayload,
+    BadPayload = 11,
 }
 
 impl Refusal {
     pub fn number(self) -> u8
         ensures { result ≡ refusal_number self }
     {
-        match self {
-            Refusal::ShortWire => 14,
-            Refusal::BadPayload => 11,
-        }
+        self as u8
     }
 }
 
-/// Writes a host frame from the start of the buffer on, and answers the length of its wire form.
-/// No wire form, of either direction, is longer than 521.
-pub fn write_host(head: Head, frame: HostFrame, wire: &mut [u8]) -> Result<usize, Refusal>
-    ensures answer { Writes Direction.FromHost (framed head (host_shows frame.entry)) wire.old wire.new result }
+/// Writes a frame of either direction from the start of the buffer on, and answers the length of its wire form.
+/// No wire form is longer than 521.
+pub fn write<'a, F: Parsed<'a>>(head: Head, frame: F, wire: &mut [u8]) -> Result<usize, Refusal>
+    ensures answer { Writes F.direction (framed head (F.shows frame)) wire.old wire.new result }
     ensures short { WireIsShort }
 {
-    match frame {
-        HostFrame::Information(block) => write(head, 0, Form::Counted, block, wire),
-        HostFrame::Command(command) => write(head, 1, Form::Counted, command, wire),
-    }
+    let Some(form) = Form::of(F::direction(), frame.code()) else {
+        unreachable!()
+    };
+    lay(head, frame.code(), form, frame.payload(), wire)
 }
 
-/// Writes a TNC frame from the start of the buffer on, and answers the length of its wire form.
-pub fn write_tnc(head: Head, frame: TncFrame, wire: &mut [u8]) -> Result<usize, Refusal>
-    ensures { Writes Direction.FromTnc (framed head (tnc_shows frame.entry)) wire.old wire.new result }
-{
-    match frame {
-        TncFrame::Success => write(head, 0, Form::Bare, &[], wire),
-        TncFrame::Message(text) => write(head, 1, Form::Text, text, wire),
-        TncFrame::Failure(text) => write(head, 2, Form::Text, text, wire),
-        TncFrame::Status(text) => write(head, 3, Form::Text, text, wire),
-        TncFrame::HeaderAlone(text) => write(head, 4, Form::Text, text, wire),
-        TncFrame::HeaderFirst(text) => write(head, 5, Form::Text, text, wire),
-        TncFrame::Monitored(block) => write(head, 6, Form::Counted, block, wire),
-        TncFrame::Information(block) => write(head, 7, Form::Counted, block, wire),
-    }
-}
-
-// Writes a frame of either direction.
-fn write(
-    head: Head,
-    code: u8,
-    form: Form,
-    payload: &[u8],
-    wire: &mut [u8],
-) -> Result<usize, Refusal>
+// The part of it that knows a frame by its code, the form that goes with that, and its payload: the same for each type.
+fn lay(head: Head, code: u8, form: Form, payload: &[u8], wire: &mut [u8]) -> Result<usize, Refusal>
     requires { code < 8 }
     ensures { Lays form (framed head (shows code payload.now)) wire.old wire.new result }
 {
@@ -98,50 +74,68 @@ fn code_byte(head: Head, code: u8) -> u8
     requires { code < 8 }
     ensures { result ≡ code_byte_of code head.reset head.toggle }
 {
-    let reset = if head.reset { 0x40 } else { 0 };
-    let toggle = if head.toggle { 0x80 } else { 0 };
-    code + reset + toggle
+    code + 0x40 * u8::from(head.reset) + 0x80 * u8::from(head.toggle)
 }
 
 // Writes the wire form of a body given in three parts.
+#[tactic(auto, using(crate::proofs::Stuffing::parts_length))]
 fn seal(front: &[u8], payload: &[u8], back: &[u8], wire: &mut [u8]) -> usize
     requires { length (wire_of (front.now ++ payload.now ++ back.now)) ≤ length wire.old }
     ensures length { result ≡ length (wire_of (front.now ++ payload.now ++ back.now)) }
     ensures after { wire.new ≡ over wire.old 0 (wire_of (front.now ++ payload.now ++ back.now)) }
 {
+    let check = check(front, payload, back);
+    let mut pen = Pen { wire, len: 0 };
+    pen.put(MARK);
+    pen.put(MARK);
+    pen.put_stuffed(front);
+    pen.put_stuffed(payload);
+    pen.put_stuffed(back);
+    pen.put_stuffed(&check);
+    pen.len
+}
+
+// The checksum of a body given in three parts.
+fn check(front: &[u8], payload: &[u8], back: &[u8]) -> [u8; 2]
+    ensures { result ≡ check_of (front.now ++ payload.now ++ back.now) }
+{
     let register = fcs::extend(fcs::extend(fcs::extend(fcs::START, front), payload), back);
-    let check = fcs::checksum(register);
-    wire[0] = MARK;
-    wire[1] = MARK;
-    let n = put_all(wire, 2, front);
-    let n = put_all(wire, n, payload);
-    let n = put_all(wire, n, back);
-    put_all(wire, n, &check)
+    fcs::checksum(register)
 }
 
-// Writes bytes as the wire has them, and says where the next goes.
-fn put_all(wire: &mut [u8], at: usize, bytes: &[u8]) -> usize
-    requires { at + length (stuffed bytes.now) ≤ length wire.old }
-    ensures next { result ≡ at + length (stuffed bytes.now) }
-    ensures after { wire.new ≡ over wire.old at (stuffed bytes.now) }
-{
-    let mut n = at;
-    for b in bytes {
-        n = put(wire, n, *b);
+// Writes a buffer from its start on: the buffer, and how far it is written.
+#[derive(Drop)]
+struct Pen<'a> {
+    wire: &'a mut [u8],
+    len: usize,
+}
+
+impl Pen<'_> {
+    // Writes a byte as it is.
+    fn put(&mut self, byte: u8)
+        requires { self.old.len < length self.old.wire.now }
+        ensures same { self.new.wire.ghost_name ≡ self.old.wire.ghost_name }
+        ensures len { self.new.len ≡ self.old.len + 1 }
+        ensures wide { length self.new.wire.now ≡ length self.old.wire.now }
+        ensures wire { self.new.wire.now ≡ over self.old.wire.now self.old.len (byte ∷ []) }
+    {
+        self.wire[self.len] = byte;
+        self.len += 1;
     }
-    n
-}
 
-fn put(wire: &mut [u8], at: usize, b: u8) -> usize
-    requires { at + length (stuff b) ≤ length wire.old }
-    ensures next { result ≡ at + length (stuff b) }
-    ensures after { wire.new ≡ over wire.old at (stuff b) }
-{
-    wire[at] = b;
-    if b == MARK {
-        wire[at + 1] = 0;
-        at + 2
-    } else {
-        at + 1
+    // Writes bytes of a frame: 00 goes after each AA.
+    fn put_stuffed(&mut self, bytes: &[u8])
+        requires { self.old.len + length (stuffed bytes.now) ≤ length self.old.wire.now }
+        ensures same { self.new.wire.ghost_name ≡ self.old.wire.ghost_name }
+        ensures len { self.new.len ≡ self.old.len + length (stuffed bytes.now) }
+        ensures wide { length self.new.wire.now ≡ length self.old.wire.now }
+        ensures wire { self.new.wire.now ≡ over self.old.wire.now self.old.len (stuffed bytes.now) }
+    {
+        for byte in bytes {
+            self.put(*byte);
+            if *byte == MARK {
+                self.put(0);
+            }
+        }
     }
 }

@@ -2,14 +2,12 @@
 ghost use Rattle.std.specs.Prelude.{◌≡◌, ◌≤◌, true};
 ghost use Rattle.store.specs.Meaning.{plain};
 ghost use Rattle.ends.specs.Blocks.{changed, one_more_counted, submit_answer, submit_counts, submit_store};
-ghost use Rattle.ends.specs.Counts.{none, submitted_of, gone_of};
+ghost use Rattle.ends.specs.Counts.{none, count_of, submitted_of, gone_of};
 
-use super::Counts;
+use super::{Count, Counts};
 use crate::refusal::Refusal;
-use frame::form::BLOCK;
-use poll::channel::{CHANNELS, Channel, LAST_CHANNEL};
-use store::Store;
-use store::refusal::Refusal as StoreRefusal;
+use poll::channel::{CHANNELS, Channel};
+use store::{Store, checks};
 
 /// The highest number of a block on its channel.
 pub const LAST_NUMBER: u32 = 4_294_967_295;
@@ -20,30 +18,34 @@ impl Counts {
         ensures submitted { submitted_of result ≡ none }
         ensures gone { gone_of result ≡ none }
     {
+        let none = Count::default();
         Counts {
-            submitted: [0; CHANNELS],
-            gone: [0; CHANNELS],
+            by_channel: [none; CHANNELS],
         }
+    }
+
+    // The counts of a channel; none above the highest.
+    fn of(&self, channel: u8) -> Count
+        ensures { result ≡ count_of self.now channel }
+    {
+        self.by_channel
+            .get(channel as usize)
+            .copied()
+            .unwrap_or_default()
     }
 
     /// How many blocks were submitted on a channel; 0 above the highest.
     pub fn submitted(&self, channel: u8) -> u32
         ensures { result ≡ submitted_of self.now channel }
     {
-        if channel > LAST_CHANNEL {
-            return 0;
-        }
-        self.submitted[channel as usize]
+        self.of(channel).submitted
     }
 
     /// How many blocks of a channel are gone; 0 above the highest.
     pub fn gone(&self, channel: u8) -> u32
         ensures { result ≡ gone_of self.now channel }
     {
-        if channel > LAST_CHANNEL {
-            return 0;
-        }
-        self.gone[channel as usize]
+        self.of(channel).gone
     }
 
     /// One more block of the channel is gone; answers its number.
@@ -53,10 +55,9 @@ impl Counts {
         ensures gone { gone_of self.new ≡ changed true channel.number one_more_counted (gone_of self.old) }
         ensures submitted { submitted_of self.new ≡ submitted_of self.old }
     {
-        let place = channel.number() as usize;
-        let number = self.gone[place].saturating_add(1);
-        self.gone[place] = number;
-        number
+        let count = &mut self.by_channel[channel.number() as usize];
+        count.gone = count.gone.saturating_add(1);
+        count.gone
     }
 
     /// Puts a block into the outgoing store, and answers its number on the channel. Refuses 10, 11, 15, then as the store.
@@ -71,20 +72,14 @@ impl Counts {
         ensures gone { gone_of self.new ≡ gone_of self.old }
         ensures store { S.Store.meaning store.new ≡ submit_store (submitted_of self.old) (S.Store.meaning store.old) channel (plain block.now) }
     {
-        if channel > LAST_CHANNEL {
-            return Err(Refusal::Store(StoreRefusal::BadChannel));
-        }
-        let n = block.len();
-        if n == 0 || n > BLOCK {
-            return Err(Refusal::Store(StoreRefusal::BadLength));
-        }
-        let place = channel as usize;
-        let last = self.submitted[place];
-        if last == LAST_NUMBER {
+        let place = checks::channel(channel)?.number() as usize;
+        checks::block(block)?;
+        let count = &mut self.by_channel[place];
+        if count.submitted == LAST_NUMBER {
             return Err(Refusal::NumbersUsed);
         }
         store.put(channel, block)?;
-        self.submitted[place] = last + 1;
-        Ok(last + 1)
+        count.submitted += 1;
+        Ok(count.submitted)
     }
 }

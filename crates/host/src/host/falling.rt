@@ -1,29 +1,28 @@
 // Going down.
 ghost use Rattle.std.specs.Prelude.{◌≡◌, MatchOption};
+ghost use Rattle.store.specs.Meaning.{Block};
 ghost use Rattle.ends.specs.Frames.{empty, holds};
 ghost use Rattle.ends.specs.Blocks.{leaves};
 ghost use Rattle.ends.specs.Host.{aboard, aboard_on, loss_word, fallen};
-ghost use Rattle.host.specs.Sent.{block_in};
 ghost use Rattle.host.specs.Model.{host_of};
 ghost use Rattle.host.specs.Answers.{fall_by, doubt_word};
 
-use super::{Host, State};
+use super::{Link, State};
 use crate::answer::{Cause, Fall};
 use crate::note::DoubtNote;
 use crate::sent::Asked;
 use poll::channel::Channel;
 use store::Store;
 
-impl Host {
+impl Link {
     // The channel of the block on its way, if there is one.
     pub(crate) fn aboard(&self) -> Option<Channel>
-        ensures { MatchOption result (aboard (host_of self.now).state ≡ empty) (λ c. (aboard (host_of self.now).state ≡ holds (block_in self.now.sent)) × (aboard_on (host_of self.now).state ≡ c.number)) }
+        ensures { MatchOption result (aboard (host_of self.now).state ≡ empty) (λ c. ((b : Block) × (aboard (host_of self.now).state ≡ holds b)) × (aboard_on (host_of self.now).state ≡ c.number)) }
     {
         match self.state {
-            State::OnItsWay(_) => match self.sent.asked() {
-                Asked::Block(channel) => Some(channel),
-                Asked::GeneralPoll => None,
-                Asked::ChannelPoll(_) => None,
+            State::OnItsWay(_) => match &self.sent.asked {
+                Asked::Block(channel, _) => Some(*channel),
+                Asked::GeneralPoll | Asked::ChannelPoll(_) => None,
             },
             State::Fresh | State::Opening(_) | State::Idle | State::Down => None,
         }
@@ -34,7 +33,6 @@ impl Host {
         ensures answer { result ≡ fall_by cause (loss_word (host_of self.old)) }
         ensures named { doubt_word result.doubt ≡ loss_word (host_of self.old) }
         ensures after { host_of self.new ≡ fallen (host_of self.old) }
-        ensures ear { self.new.ear ≡ self.old.ear }
         ensures out { O.Store.meaning out.new ≡ leaves (loss_word (host_of self.old)) (O.Store.meaning out.old) }
     {
         let lost = self.aboard();

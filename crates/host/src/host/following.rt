@@ -7,7 +7,7 @@ ghost use Rattle.host.specs.Model.{host_of};
 ghost use Rattle.host.specs.Met.{Confirms, Followed};
 
 use super::met::Met;
-use super::{Host, State};
+use super::{Link, State};
 use crate::answer::Heard;
 use ends::name::BlockName;
 use ends::refusal::Refusal;
@@ -18,7 +18,7 @@ use store::Store;
 /// The highest spare, which no frame lowers.
 const LAST_SPARE: u16 = 65_535;
 
-impl Host {
+impl Link {
     // Does what the rule says; the toggle is that of the frame.
     pub(crate) fn follow<O: Store>(
         &mut self,
@@ -27,8 +27,7 @@ impl Host {
         met: Met,
     ) -> Result<Heard, Refusal>
         requires { Confirms met (aboard_on (host_of self.old).state) (aboard (host_of self.old).state) }
-        ensures step { Followed met toggle (host_of self.old) (host_of self.new) (O.Store.meaning out.old) (O.Store.meaning out.new) result }
-        ensures ear { self.new.ear ≡ self.old.ear }
+        ensures { Followed met toggle (host_of self.old) (host_of self.new) (O.Store.meaning out.old) (O.Store.meaning out.new) result }
     {
         match met {
             Met::Stale => Ok(Heard::Stale),
@@ -65,8 +64,7 @@ impl Host {
 
     // The link is open.
     fn opened(&mut self, toggle: bool, list: PollList)
-        ensures after { host_of self.new ≡ opened_with (host_of self.old) (polled list) toggle }
-        ensures ear { self.new.ear ≡ self.old.ear }
+        ensures { host_of self.new ≡ opened_with (host_of self.old) (polled list) toggle }
     {
         self.state = State::Idle;
         self.generation = !self.generation;
@@ -80,8 +78,7 @@ impl Host {
     // The block on its way has arrived: it leaves its store, and counts as gone.
     fn confirm<O: Store>(&mut self, out: &mut O, toggle: bool, channel: Channel) -> BlockName
         requires { Confirms (Met.Confirmed channel) (aboard_on (host_of self.old).state) (aboard (host_of self.old).state) }
-        ensures step { Followed (Met.Confirmed channel) toggle (host_of self.old) (host_of self.new) (O.Store.meaning out.old) (O.Store.meaning out.new) (Ok (Heard.Confirmed result)) }
-        ensures ear { self.new.ear ≡ self.old.ear }
+        ensures { Followed (Met.Confirmed channel) toggle (host_of self.old) (host_of self.new) (O.Store.meaning out.old) (O.Store.meaning out.new) (Ok (Heard.Confirmed result)) }
     {
         self.take(toggle, false);
         let number = self.counts.count_gone(channel);
@@ -94,8 +91,7 @@ impl Host {
 
     // An answer is taken.
     fn take(&mut self, toggle: bool, refused: bool)
-        ensures after { host_of self.new ≡ taken (host_of self.old) (polled self.old.list) refused silent toggle }
-        ensures ear { self.new.ear ≡ self.old.ear }
+        ensures { host_of self.new ≡ taken (host_of self.old) (polled self.old.list) refused silent toggle }
     {
         self.spare = self.repeats();
         self.state = State::Idle;

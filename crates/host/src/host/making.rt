@@ -8,7 +8,7 @@ ghost use Rattle.ends.specs.Counts.{submitted_of, gone_of};
 ghost use Rattle.ends.specs.Host.{new_host};
 ghost use Rattle.host.specs.Model.{host_of};
 
-use super::{Host, State};
+use super::{Host, Link, State};
 use crate::sent::{Asked, Sent};
 use ends::counts::Counts;
 use ends::ear::Ear;
@@ -22,51 +22,57 @@ pub const MOST_REPEATS: u8 = 15;
 impl Host {
     /// A fresh host that repeats a frame as often as set; refuses 18 above 15.
     pub fn new(repeats: u8) -> Result<Host, Refusal>
-        ensures { MatchResult result (λ h. (host_of h ≡ new_host repeats) × (heard_by h.ear ≡ fresh Direction.FromTnc)) (λ e. (most_repeats < repeats) × (e ≡ ManyRepeats)) }
+        ensures { MatchResult result (λ h. (host_of h.link ≡ new_host repeats) × (heard_by h.ear ≡ fresh Direction.FromTnc)) (λ e. (most_repeats < repeats) × (e ≡ ManyRepeats)) }
     {
         if repeats > MOST_REPEATS {
             return Err(Refusal::ManyRepeats);
         }
         Ok(Host {
             ear: Ear::new(Direction::FromTnc),
-            setting: repeats,
-            state: State::Fresh,
-            generation: false,
-            last: false,
-            spare: 0,
-            resets: 0,
-            list: PollList::empty(),
-            refused: false,
-            counts: Counts::new(),
-            sent: Sent::poll(Asked::GeneralPoll, false),
+            link: Link {
+                setting: repeats,
+                state: State::Fresh,
+                generation: false,
+                last: false,
+                spare: 0,
+                resets: 0,
+                list: PollList::empty(),
+                refused: false,
+                counts: Counts::new(),
+                sent: Sent {
+                    asked: Asked::GeneralPoll,
+                    reset: false,
+                    toggle: false,
+                },
+            },
         })
     }
 
     /// Where the host stands.
     pub fn state(&self) -> State
-        ensures { result ≡ self.now.state }
+        ensures { result ≡ self.now.link.state }
     {
-        self.state
+        self.link.state
     }
 
     /// How many frames out of sequence may still come before the link goes down.
     pub fn spare(&self) -> u16
-        ensures { result ≡ (host_of self.now).spare }
+        ensures { result ≡ (host_of self.now.link).spare }
     {
-        self.spare
+        self.link.spare
     }
 
     /// How many blocks were submitted on a channel.
     pub fn submitted(&self, channel: u8) -> u32
-        ensures { result ≡ (host_of self.now).submitted channel }
+        ensures { result ≡ (host_of self.now.link).submitted channel }
     {
-        self.counts.submitted(channel)
+        self.link.counts.submitted(channel)
     }
 
     /// How many blocks of a channel are gone, confirmed or doubtful.
     pub fn gone(&self, channel: u8) -> u32
-        ensures { result ≡ (host_of self.now).gone channel }
+        ensures { result ≡ (host_of self.now.link).gone channel }
     {
-        self.counts.gone(channel)
+        self.link.counts.gone(channel)
     }
 }

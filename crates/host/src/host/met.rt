@@ -7,11 +7,12 @@ ghost use Rattle.store.specs.Meaning.{Block, Meaning};
 ghost use Rattle.host.specs.Model.{host_of};
 ghost use Rattle.host.specs.Met.{answer_shown, rule_of, OpeningMet, SequenceMet, MetIs};
 
-use super::{Host, State};
+use super::reading::Answer;
+use super::{Link, State};
 use crate::answer::Cause;
 use crate::sent::Asked;
 use frame::frames::TncFrame;
-use frame::head::{GENERAL, Head};
+use frame::head::GENERAL;
 use poll::channel::Channel;
 use poll::list::PollList;
 use store::Store;
@@ -38,23 +39,23 @@ pub enum Met {
     Falls(Cause),
 }
 
-impl Host {
+impl Link {
     // The rule that a frame meets in this state; a poll's block goes into the incoming store.
-    pub(crate) fn met<I: Store>(&self, inn: &mut I, head: Head, frame: TncFrame) -> Met
-        ensures { MetIs (host_of self.now) (I.Store.meaning inn.old) (I.Store.meaning inn.new) (answer_shown head frame.entry) result }
+    pub(crate) fn met<I: Store>(&self, inn: &mut I, answer: Answer) -> Met
+        ensures { MetIs (host_of self.now) (I.Store.meaning inn.old) (I.Store.meaning inn.new) (answer_shown answer.entry) result }
     {
         match self.state {
             State::Fresh | State::Down => Met::Stale,
-            State::Opening(_) => opening(self.generation, head, frame),
+            State::Opening(_) => answer.opening(self.generation),
             State::Idle => out_of_sequence(self.spare),
             State::OnItsWay(_) => {
-                if head.reset || head.toggle != self.sent.toggle() {
+                if answer.head.reset || answer.head.toggle != self.sent.toggle {
                     return out_of_sequence(self.spare);
                 }
-                match self.sent.asked() {
-                    Asked::Block(channel) => to_block(channel, head, frame),
-                    Asked::ChannelPoll(channel) => to_poll(inn, channel, head, frame),
-                    Asked::GeneralPoll => to_general(head, frame),
+                match &self.sent.asked {
+                    Asked::Block(channel, _) => answer.to_block(*channel),
+                    Asked::ChannelPoll(channel) => answer.to_poll(*channel, inn),
+                    Asked::GeneralPoll => answer.to_general(),
                 }
             }
         }
@@ -71,74 +72,70 @@ fn out_of_sequence(spare: u16) -> Met
     }
 }
 
-// A frame while the reset is on its way.
-fn opening(generation: bool, head: Head, frame: TncFrame) -> Met
-    ensures { OpeningMet generation (answer_shown head frame.entry) result }
-{
-    if !head.reset || head.toggle != generation || head.address.byte() != GENERAL {
-        return Met::Stale;
+impl Answer<'_> {
+    // A frame while the reset is on its way.
+    fn opening(self, generation: bool) -> Met
+        ensures { OpeningMet generation (answer_shown self.entry) result }
+    {
+        if !self.head.reset || self.head.toggle != generation || self.channel() != GENERAL {
+            return Met::Stale;
+        }
+        match self.list() {
+            Some(list) => Met::Opened(list),
+            None => Met::Stale,
+        }
     }
-    let TncFrame::Message(text) = frame else {
-        return Met::Stale;
-    };
-    match PollList::read(text) {
-        Some(list) => Met::Opened(list),
-        None => Met::Stale,
-    }
-}
 
-// A frame in sequence after a block.
-fn to_block(channel: Channel, head: Head, frame: TncFrame) -> Met
-    ensures { (reset toggle : Bool) (b : Block) (inn : Meaning) → SequenceMet (block_request channel.number reset toggle b) inn inn (answer_shown head frame.entry) result }
-{
-    if head.address.byte() != channel.number() {
-        return Met::Falls(Cause::WrongAnswer);
+    // A frame in sequence after a block.
+    fn to_block(self, channel: Channel) -> Met
+        ensures { (reset toggle : Bool) (b : Block) (inn : Meaning) → SequenceMet (block_request channel.number reset toggle b) inn inn (answer_shown self.entry) result }
+    {
+        if self.channel() != channel.number() {
+            return Met::Falls(Cause::WrongAnswer);
+        }
+        match self.frame {
+            TncFrame::Success | TncFrame::Message(_) => Met::Confirmed(channel),
+            TncFrame::Failure(_) => Met::BlockRefused,
+            TncFrame::Status(_)
+            | TncFrame::HeaderAlone(_)
+            | TncFrame::HeaderFirst(_)
+            | TncFrame::Monitored(_)
+            | TncFrame::Information(_) => Met::Falls(Cause::WrongAnswer),
+        }
     }
-    match frame {
-        TncFrame::Success | TncFrame::Message(_) => Met::Confirmed(channel),
-        TncFrame::Failure(_) => Met::BlockRefused,
-        TncFrame::Status(_)
-        | TncFrame::HeaderAlone(_)
-        | TncFrame::HeaderFirst(_)
-        | TncFrame::Monitored(_)
-        | TncFrame::Information(_) => Met::Falls(Cause::WrongAnswer),
-    }
-}
 
-// A frame in sequence after a channel's poll.
-fn to_poll<I: Store>(inn: &mut I, channel: Channel, head: Head, frame: TncFrame) -> Met
-    ensures { (reset toggle : Bool) → SequenceMet (poll_request channel.number reset toggle) (I.Store.meaning inn.old) (I.Store.meaning inn.new) (answer_shown head frame.entry) result }
-{
-    if head.address.byte() != channel.number() {
-        return Met::Falls(Cause::WrongAnswer);
+    // A frame in sequence after a channel's poll.
+    fn to_poll<I: Store>(self, channel: Channel, inn: &mut I) -> Met
+        ensures { (reset toggle : Bool) → SequenceMet (poll_request channel.number reset toggle) (I.Store.meaning inn.old) (I.Store.meaning inn.new) (answer_shown self.entry) result }
+    {
+        if self.channel() != channel.number() {
+            return Met::Falls(Cause::WrongAnswer);
+        }
+        match self.frame {
+            TncFrame::Success => Met::NothingThere,
+            TncFrame::Information(block) => match inn.put(channel.number(), block) {
+                Ok(()) => Met::Received,
+                Err(_) => Met::NoRoom,
+            },
+            TncFrame::Message(_)
+            | TncFrame::Failure(_)
+            | TncFrame::Status(_)
+            | TncFrame::HeaderAlone(_)
+            | TncFrame::HeaderFirst(_)
+            | TncFrame::Monitored(_) => Met::Falls(Cause::WrongAnswer),
+        }
     }
-    match frame {
-        TncFrame::Success => Met::NothingThere,
-        TncFrame::Information(block) => match inn.put(channel.number(), block) {
-            Ok(()) => Met::Received,
-            Err(_) => Met::NoRoom,
-        },
-        TncFrame::Message(_)
-        | TncFrame::Failure(_)
-        | TncFrame::Status(_)
-        | TncFrame::HeaderAlone(_)
-        | TncFrame::HeaderFirst(_)
-        | TncFrame::Monitored(_) => Met::Falls(Cause::WrongAnswer),
-    }
-}
 
-// A frame in sequence after the general poll.
-fn to_general(head: Head, frame: TncFrame) -> Met
-    ensures { (reset toggle : Bool) (inn : Meaning) → SequenceMet (poll_request general reset toggle) inn inn (answer_shown head frame.entry) result }
-{
-    if head.address.byte() != GENERAL {
-        return Met::Falls(Cause::WrongAnswer);
-    }
-    let TncFrame::Message(text) = frame else {
-        return Met::Falls(Cause::WrongAnswer);
-    };
-    match PollList::read(text) {
-        Some(list) => Met::Listed(list),
-        None => Met::Falls(Cause::WrongAnswer),
+    // A frame in sequence after the general poll.
+    fn to_general(self) -> Met
+        ensures { (reset toggle : Bool) (inn : Meaning) → SequenceMet (poll_request general reset toggle) inn inn (answer_shown self.entry) result }
+    {
+        if self.channel() != GENERAL {
+            return Met::Falls(Cause::WrongAnswer);
+        }
+        match self.list() {
+            Some(list) => Met::Listed(list),
+            None => Met::Falls(Cause::WrongAnswer),
+        }
     }
 }

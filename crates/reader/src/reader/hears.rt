@@ -1,12 +1,12 @@
 // What a reader does with each byte.
-ghost use Rattle.std.specs.Prelude.{◌≡◌, ◌+◌, ◌*◌, ◌≤◌, Ok, Err};
+ghost use Rattle.std.specs.Prelude.{◌≡◌, ◌+◌, length, Ok, Err};
 ghost use Rattle.std.specs.Option.{option_map};
-ghost use Rattle.frame.specs.Frame.{longest_body};
 ghost use Rattle.reader.specs.Laws.{RoundTrip, WrittenPasses, OneWireForm, CountsRaw};
-ghost use Rattle.reader.specs.State.{room, room_of, outside_of};
+ghost use Rattle.reader.specs.State.{Stands};
 ghost use Rattle.reader.specs.Read.{meaning, fresh, passed, fault_of, hears, with_channel, without, on_to, keeps, adds};
 
-use super::{BODY, Reader};
+use super::Reader;
+use crate::body::Body;
 use crate::fault::{Fault, Layer, Reason};
 use crate::state::{Heard, Part, State};
 use frame::form::{Direction, Form, TEXT};
@@ -26,9 +26,7 @@ impl Reader {
         Reader {
             direction,
             state: State::Waiting,
-            body: [0; BODY],
-            len: 0,
-            register: fcs::START,
+            body: Body::new(),
             raw: 0,
         }
     }
@@ -37,10 +35,7 @@ impl Reader {
     pub fn body(&self) -> Option<&[u8]>
         ensures { option_map (λ x. x.now) result ≡ passed (meaning self.now) }
     {
-        match self.state {
-            State::Passed => Some(&self.body[0..self.len]),
-            _ => None,
-        }
+        matches!(self.state, State::Passed).then_some(self.body.as_slice())
     }
 
     /// Hears one byte.
@@ -53,7 +48,7 @@ impl Reader {
             (State::Marked | State::Started, MARK) => self.rest(State::Started),
             (State::Waiting | State::Passed | State::Marked, _) => self.rest(State::Waiting),
             (State::Started, _) => self.begin(b),
-            (State::Inside(part), MARK) => self.escape(part),
+            (State::Inside(part), MARK) => self.go_on(State::Escaped(part)),
             (State::Inside(part), _) => self.add(part, b),
             (State::Escaped(part), 0) => self.add(part, MARK),
             (State::Escaped(_), MARK) => self.fail(Reason::NewFrame, State::Started),
@@ -62,20 +57,23 @@ impl Reader {
     }
 }
 
+// The steps. Each answers for `hear`, so each says its answer and what it leaves. Most ask for `Stands` of the state that
+// they go to: no value is in that state before the step, so no type can say it.
 impl Reader {
     // Goes on with no frame.
     fn rest(&mut self, state: State) -> Result<Heard, Fault>
-        requires { room state ≤ longest_body }
+        requires { Stands state 0 0 }
         ensures after { meaning self.new ≡ without self.old state }
         ensures answer { result ≡ Ok Heard.More }
     {
-        self.clear(state);
+        self.clear();
+        self.state = state;
         Ok(Heard::More)
     }
 
     // Drops the frame for a fault at this byte.
     fn fail(&mut self, reason: Reason, state: State) -> Result<Heard, Fault>
-        requires { room state ≤ longest_body }
+        requires { Stands state 0 0 }
         ensures after { meaning self.new ≡ without self.old state }
         ensures answer { result ≡ Err (fault_of reason (self.old.raw + 1)) }
     {
@@ -84,27 +82,26 @@ impl Reader {
             reason,
             count: self.raw + 1,
         };
-        self.clear(state);
+        self.clear();
+        self.state = state;
         Err(fault)
     }
 
-    fn clear(&mut self, state: State)
-        requires { room state ≤ longest_body }
-        ensures { meaning self.new ≡ without self.old state }
+    fn clear(&mut self)
+        ensures { meaning self.new ≡ without self.old State.Waiting }
     {
-        self.state = state;
-        self.len = 0;
-        self.register = fcs::START;
+        self.state = State::Waiting;
+        self.body.clear();
         self.raw = 0;
     }
 
-    // An AA in a frame.
-    fn escape(&mut self, part: Part) -> Result<Heard, Fault>
-        requires state { self.old.state ≡ State.Inside part }
-        ensures after { meaning self.new ≡ on_to self.old (State.Escaped part) }
+    // One raw byte on, with none more of the body.
+    fn go_on(&mut self, state: State) -> Result<Heard, Fault>
+        requires { Stands state (length self.old.body) (self.old.raw + 1) }
+        ensures after { meaning self.new ≡ on_to self.old state }
         ensures answer { result ≡ Ok Heard.More }
     {
-        self.state = State::Escaped(part);
+        self.state = state;
         self.raw += 1;
         Ok(Heard::More)
     }
@@ -115,92 +112,42 @@ impl Reader {
         ensures after { meaning self.new ≡ (with_channel self.old.direction b).then }
         ensures answer { result ≡ (with_channel self.old.direction b).says }
     {
-        if b <= LAST_CHANNEL || b == GENERAL {
-            self.keep(b, Part::Code)
-        } else {
-            self.fail(Reason::BadChannel, State::Waiting)
+        match b {
+            0..=LAST_CHANNEL | GENERAL => self.keep(b, Part::Code),
+            _ => self.fail(Reason::BadChannel, State::Waiting),
         }
     }
 
     // One byte more of the frame.
     fn add(&mut self, part: Part, b: u8) -> Result<Heard, Fault>
-        requires room { self.old.len + room_of part ≤ longest_body }
-        requires raw { self.old.raw ≤ 2 * self.old.len + outside_of part + 1 }
+        requires { Stands (State.Escaped part) (length self.old.body) self.old.raw }
         ensures after { meaning self.new ≡ (adds self.old part b).then }
         ensures answer { result ≡ (adds self.old part b).says }
     {
         match part {
-            Part::Code => self.add_code(b),
+            Part::Code => match Form::of(self.direction, b & 0x3f) {
+                Some(form) => self.keep(b, Part::from(form)),
+                None => self.fail(Reason::UnknownCode, State::Waiting),
+            },
             Part::Count => self.keep(b, Part::Block(u16::from(b) + 1)),
-            Part::Block(left) => self.add_block(left, b),
-            Part::Text => self.add_text(b),
-            Part::Low => self.hold(b),
+            Part::Block(left) if left > 1 => self.keep(b, Part::Block(left - 1)),
+            Part::Block(_) => self.keep(b, Part::Low),
+            Part::Text if b == 0 => self.keep(b, Part::Low),
+            Part::Text if self.body.len() < TEXT + 2 => self.keep(b, Part::Text),
+            Part::Text => self.fail(Reason::EndlessText, State::Waiting),
+            Part::Low => self.go_on(State::Inside(Part::High(b))),
             Part::High(low) => self.close(low, b),
-        }
-    }
-
-    fn add_code(&mut self, b: u8) -> Result<Heard, Fault>
-        requires room { self.old.len + room_of Part.Code ≤ longest_body }
-        requires raw { self.old.raw ≤ 2 * self.old.len + 1 }
-        ensures after { meaning self.new ≡ (adds self.old Part.Code b).then }
-        ensures answer { result ≡ (adds self.old Part.Code b).says }
-    {
-        match Form::of(self.direction, b & 0x3f) {
-            Some(form) => self.keep(b, Part::after_code(form)),
-            None => self.fail(Reason::UnknownCode, State::Waiting),
-        }
-    }
-
-    fn add_block(&mut self, left: u16, b: u8) -> Result<Heard, Fault>
-        requires room { self.old.len + room_of (Part.Block left) ≤ longest_body }
-        requires raw { self.old.raw ≤ 2 * self.old.len + 1 }
-        ensures after { meaning self.new ≡ (adds self.old (Part.Block left) b).then }
-        ensures answer { result ≡ (adds self.old (Part.Block left) b).says }
-    {
-        if left > 1 {
-            self.keep(b, Part::Block(left - 1))
-        } else {
-            self.keep(b, Part::Low)
-        }
-    }
-
-    fn add_text(&mut self, b: u8) -> Result<Heard, Fault>
-        requires room { self.old.len + room_of Part.Text ≤ longest_body }
-        requires raw { self.old.raw ≤ 2 * self.old.len + 1 }
-        ensures after { meaning self.new ≡ (adds self.old Part.Text b).then }
-        ensures answer { result ≡ (adds self.old Part.Text b).says }
-    {
-        if b == 0 {
-            self.keep(b, Part::Low)
-        } else if self.len < TEXT + 2 {
-            self.keep(b, Part::Text)
-        } else {
-            self.fail(Reason::EndlessText, State::Waiting)
         }
     }
 
     // Keeps a byte of the body.
     fn keep(&mut self, b: u8, next: Part) -> Result<Heard, Fault>
-        requires room { self.old.len + 1 + room_of next ≤ longest_body }
-        requires raw { self.old.raw ≤ 2 * self.old.len + 1 + outside_of next }
+        requires { Stands (State.Inside next) (length self.old.body + 1) (self.old.raw + 1) }
         ensures after { meaning self.new ≡ keeps self.old next b }
         ensures answer { result ≡ Ok Heard.More }
     {
         self.state = State::Inside(next);
-        self.body[self.len] = b;
-        self.len += 1;
-        self.register = fcs::step(self.register, b);
-        self.raw += 1;
-        Ok(Heard::More)
-    }
-
-    // Holds the low byte of the checksum.
-    fn hold(&mut self, low: u8) -> Result<Heard, Fault>
-        requires { self.old.raw ≤ 2 * self.old.len + 1 }
-        ensures after { meaning self.new ≡ on_to self.old (State.Inside (Part.High low)) }
-        ensures answer { result ≡ Ok Heard.More }
-    {
-        self.state = State::Inside(Part::High(low));
+        self.body.push(b);
         self.raw += 1;
         Ok(Heard::More)
     }
@@ -210,7 +157,7 @@ impl Reader {
         ensures after { meaning self.new ≡ (adds self.old (Part.High low) high).then }
         ensures answer { result ≡ (adds self.old (Part.High low) high).says }
     {
-        if fcs::extend(self.register, &[low, high]) != fcs::RESIDUE {
+        if fcs::extend(self.body.register(), &[low, high]) != fcs::RESIDUE {
             return self.fail(Reason::BadChecksum, State::Waiting);
         }
         self.state = State::Passed;

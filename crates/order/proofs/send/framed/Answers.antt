@@ -11,4 +11,4 @@ returns c =
     let bytes = c.args.bytes.now in
     let e = frame_is c.args.number bytes c.head_for.result c.head_for.ensures in
     framed_from c.args.number bytes c.args.wire.now _ _ (omega arith)
-    (subst (λ (f : Frame). Writes FromHost f c.args.wire.now c.write_host.new.wire c.write_host.result) e c.write_host.ensures.answer)
+    (subst (λ (f : Frame). Writes FromHost f c.args.wire.now c.write.new.wire c.write.result) e c.write.ensures.answer)

@@ -1,27 +1,19 @@
--- The search goes on, finds, or ends.
-use Rattle.std.proofs.Common.{◌≡◌, sym, ◌∙◌, arith}
-use Rattle.store.proofs.Places.{place_step, place_here, place_end}
+-- The first place of the channel, or none.
+use Rattle.std.proofs.Common.{◌≡◌, ℕ, nat_eq, ap, ◌∙◌}
+use Rattle.std.proofs.lemmas.List.{length-map}
+use Rattle.std.specs.List.{position}
+use Rattle.std.specs.Option.{ok_or}
+use Rattle.store.specs.declared.refusal.Refusal.TheVariants.{NoneWaiting}
+use Rattle.store.proofs.Places.{place_shown}
+use Rattle.store.proofs.Arrivals.{first_found}
+use Rattle.shelf.specs.declared.Place.{Place}
+use Rattle.shelf.specs.Size.{place_count}
 use Rattle.shelf.specs.Shown.{entry, entries}
-use Rattle.shelf.proofs.Places.{used_is, channel_at}
 use Rattle.shelf.proofs.Shelf.first_on.Goals as goal
-
-pub loop-i-preserved : goal.loop-i-preserved
-loop-i-preserved c =
-    let u = used_is c.args.self.now in
-    let at = channel_at c.args.self.now c.loop-i.i c.index-self-i.result c.loop-i-test.true in
-    place_step c.args.channel (entries c.args.self.now) c.loop-i.i (entry c.index-self-i.result) (omega arith) (λ e. c.if-self-i.false (sym at ∙ e)) c.loop-i.invariant
-
-pub returns-then-self-i : goal.returns-then-self-i
-returns-then-self-i c =
-    let u = used_is c.args.self.now in
-    let at = channel_at c.args.self.now c.loop-i.i c.index-self-i.result c.loop-i-test.true in
-    record {
-      value = sym (place_here c.args.channel (entries c.args.self.now) c.loop-i.i (entry c.index-self-i.result) (omega arith) (at ∙ c.if-self-i.true) c.loop-i.invariant);
-      bound = omega arith;
-    }
 
 pub returns : goal.returns
 returns c =
-    let u = used_is c.args.self.now in
-    let all : c.loop-i.i ≡ c.args.self.now.used = omega arith in
-    record { value = sym all ∙ sym (place_end c.args.channel (entries c.args.self.now) c.loop-i.i (omega arith) c.loop-i.invariant); bound = omega arith }
+    let s = c.args.self.now in
+    let at : c.index_of.result ≡ position (λ (p : Place). nat_eq p.channel.number c.args.channel) s.places.items =
+    c.index_of.ensures ∙ ap (λ (n : ℕ). position (λ (p : Place). nat_eq p.channel.number n) s.places.items) c.in_ok-channel.ensures.0 in
+    first_found (entries s) place_count c.args.channel _ _ c.ok_or.result c.in_ok-channel.ensures.1 (place_shown entry c.args.channel s.places.items) (length-map s.places.items entry) (c.ok_or.ensures.value ∙ ap (λ o. ok_or o NoneWaiting) at)

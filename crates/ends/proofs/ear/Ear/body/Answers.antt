@@ -12,5 +12,5 @@ framed : (m : Meaning) (r : Option (Bor (List ℕ))) → ∥ FromStart m ∥₁ 
 framed m None s e = tt
 framed m (Some b) s e = ∥∥₁_map s (λ x. shown m b.now x (sym e))
 
-pub returns : goal.returns
-returns c = record { value = c.body.ensures; frame = framed (heard_by c.args.self.now) c.body.result c.args.self.now.line c.body.ensures }
+pub returns-clause-frame : goal.returns-clause-frame
+returns-clause-frame c = framed (heard_by c.args.self.now) c.body.result c.args.self.now.line c.body.ensures

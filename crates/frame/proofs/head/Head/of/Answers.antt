@@ -7,5 +7,5 @@ use Rattle.frame.proofs.head.Head.of.Goals as goal
 
 pub returns : goal.returns
 returns c =
-    let i : HeadIn c.args.body.now _ = record { long = omega arith; address = c.in_ok-address.ensures.0; reset = reset_bit _; toggle = toggle_bit _ } in
+    let i : HeadIn c.args.body.now _ = record { long = omega arith; address = c.in_ok-of.ensures.0; reset = reset_bit _; toggle = toggle_bit _ } in
     record { reads = i; built = λ d f b. head_read d c.args.body.now f _ i b }

@@ -1,7 +1,6 @@
--- A new receiver, and what it makes of blocks that were sent.
-use Rattle.std.proofs.Common.{rules}
+-- What a new receiver makes of blocks that were sent.
 use Rattle.order.proofs.Joining.{joins}
 use Rattle.order.proofs.receive.Receiver.new.Goals as goal
 
-pub returns : goal.returns
-returns c = record { reader = search rules; order = search rules; last = search rules; joins = joins }
+pub returns-clause-joins : goal.returns-clause-joins
+returns-clause-joins c = joins

@@ -1,24 +1,29 @@
--- A block at the end of the used places is the last that arrived.
-use Rattle.std.proofs.Common.{[], ◌∷◌, ◌++◌, sym, ap, ◌∙◌, rules}
+-- What is pushed is the last that arrived.
+use Rattle.std.proofs.Common.{◌≡◌, ℕ, List, [], ◌∷◌, ◌++◌, map, length, ap, sym, ◌∙◌, rules}
+use Rattle.std.proofs.lemmas.List.{length-map, map_push}
 use Rattle.store.specs.Meaning.{plain}
 use Rattle.store.specs.Arrival.{Entry}
 use Rattle.store.proofs.Arrivals.{put_granted, put_full}
 use Rattle.shelf.specs.Size.{place_count}
-use Rattle.shelf.specs.Shown.{entries}
-use Rattle.shelf.proofs.Places.{used_is, storable, pushed}
+use Rattle.shelf.specs.Shown.{entry, entries}
+use Rattle.shelf.proofs.Places.{storable}
 use Rattle.shelf.proofs.calls.ShelfStore.put.Goals as goal
 
-pub returns-then-at-eq-PLACES : goal.returns-then-at-eq-PLACES
-returns-then-at-eq-PLACES c =
+pub returns-then-is_full : goal.returns-then-is_full
+returns-then-is_full c =
     let s = c.args.self.now in
-    let p =
-    put_full (entries s) place_count c.args.channel (plain c.args.block.now) (storable s) c.if-channel-gt-LAST_CHANNEL.false c.if-n-eq0.false c.if-n-gt-BLOCK.false (used_is s ∙ c.if-at-eq-PLACES.true) in
-    record { answer = sym p.0; after = sym p.1 }
+    let full : length s.places.items ≡ place_count = search rules in
+    let p = put_full (entries s) place_count c.args.channel (plain c.args.block.now) (storable s) c.in_ok-channel.ensures.1 c.in_ok-block.ensures.0 c.in_ok-block.ensures.1 (length-map s.places.items entry ∙ full) in
+    record { answer = p.0; after = p.1 }
 
 pub returns : goal.returns
 returns c =
     let s = c.args.self.now in
+    let room : length s.places.items ≡ place_count → ⊥ = search rules in
+    let bytes : c.unwrap-block.result.items ≡ c.args.block.now = search rules in
     let p =
-    put_granted (entries s) _ place_count c.args.channel (plain c.args.block.now) (storable s) c.if-channel-gt-LAST_CHANNEL.false c.if-n-eq0.false c.if-n-gt-BLOCK.false (λ e. c.if-at-eq-PLACES.false (sym (used_is s) ∙ e))
-    (pushed s.places s.used c.with.result (search rules) ∙ ap (λ (x : Entry). entries s ++ x ∷ []) c.with.ensures) in
-    record { answer = sym p.0; after = p.1 }
+    put_granted (entries s) _ place_count c.args.channel (plain c.args.block.now) (storable s) c.in_ok-channel.ensures.1 c.in_ok-block.ensures.0 c.in_ok-block.ensures.1 (λ e. room (sym (length-map s.places.items entry) ∙ e))
+    (ap (map entry) c.push.ensures.items ∙ map_push entry s.places.items _
+    ∙ ap (λ (b : List ℕ). entries s ++ record { channel = c.in_ok-channel.channel.number; block = plain b } ∷ []) bytes
+    ∙ ap (λ (n : ℕ). entries s ++ record { channel = n; block = plain c.args.block.now } ∷ []) c.in_ok-channel.ensures.0) in
+    record { answer = p.0; after = p.1 }

@@ -1,14 +1,13 @@
 -- As many wait as places are used.
 use Rattle.std.proofs.Common.{sym, ◌∙◌}
+use Rattle.std.proofs.lemmas.List.{length-map}
 use Rattle.store.proofs.Arrivals.{total_arrived}
 use Rattle.shelf.specs.Size.{place_count}
-use Rattle.shelf.specs.Shown.{entries}
-use Rattle.shelf.proofs.Places.{used_is, storable}
+use Rattle.shelf.specs.Shown.{entry, entries}
+use Rattle.shelf.proofs.Places.{storable}
 use Rattle.shelf.proofs.calls.ShelfStore.total.Goals as goal
 
-pub returns : goal.returns
-returns c =
-    record {
-      value = sym (total_arrived (entries c.args.self.now) place_count (storable c.args.self.now) ∙ used_is c.args.self.now);
-      bound = c.args.self.now.room;
-    }
+pub returns-clause-value : goal.returns-clause-value
+returns-clause-value c =
+    let s = c.args.self.now in
+    c.len.ensures.value ∙ sym (total_arrived (entries s) place_count (storable s) ∙ length-map s.places.items entry)

@@ -1,22 +1,19 @@
--- Each record counts or does not.
-use Rattle.std.proofs.Common.{length, sym, ◌∙◌, arith}
-use Rattle.store.proofs.Places.{count_step_here, count_step_other, count_end}
+-- As many records as there are blocks of the channel.
+use Rattle.std.proofs.Common.{nat_eq, length, ap, ◌∙◌, rules, tests}
+use Rattle.std.proofs.lemmas.Iterator.Consumers.{YieldsList-from_first, YieldsList-from_filter, count_from_yields_List}
+use Rattle.store.proofs.Arrivals.{count_arrived}
+use Rattle.strip.specs.declared.records.Record.{Record}
 use Rattle.strip.specs.Records.{limit_of}
-use Rattle.strip.specs.Shown.{area_of, records, no_entry}
-use Rattle.strip.proofs.Found.{held_is}
+use Rattle.strip.specs.Walk.{ahead}
+use Rattle.strip.specs.Shown.{area_of, records}
+use Rattle.strip.proofs.Found.{storable_records}
+use Rattle.strip.proofs.Walk.{counted}
 use Rattle.strip.proofs.calls.StripStore.count.Goals as goal
-use Rattle.strip.proofs.calls.StripStore.count.Goals.{then-head-channel, else-head-channel}
-
-pub loop-index-preserved : goal.loop-index-preserved
-loop-index-preserved c =
-    let h = c.head-head.ensures in
-    let l = held_is c.args.self.now in
-    elim c.if-head-channel.branch [
-      | then-head-channel w ↦ (omega (arith, w.n-is), omega arith, rw w.n-is (count_step_here c.args.channel (records c.args.self.now) c.loop-index.index c.loop-index.n no_entry (omega arith) (sym h.channel ∙ w.if-head-channel.true) c.loop-index.invariant.2))
-      | else-head-channel w ↦ (omega (arith, w.n-is), omega arith, rw w.n-is (count_step_other c.args.channel (records c.args.self.now) c.loop-index.index c.loop-index.n no_entry (omega arith) (λ e. w.if-head-channel.false (h.channel ∙ e)) c.loop-index.invariant.2))
-    ]
 
 pub returns : goal.returns
 returns c =
-    let l = held_is c.args.self.now in
-    count_end c.args.channel (records c.args.self.now) c.loop-index.index c.loop-index.n (limit_of (length (area_of c.args.self.now))) c.if-channel-gt-LAST_CHANNEL.false (omega arith) c.loop-index.invariant.2
+    let s = c.args.self.now in
+    count_from_yields_List c.filter.result c.count.result c.count.ensures.ran
+    (YieldsList-from_filter _ (λ (r : Record). nat_eq r.channel c.args.channel) (YieldsList-from_first (λ r. r) ahead _ (ap ahead c.filter.ensures.source ∙ c.records.ensures)) c.filter.ensures.closure (λ x r q k. search (rules, tests)))
+    ∙ counted c.args.channel 0 (records s)
+    ∙ count_arrived (records s) (limit_of (length (area_of s))) c.args.channel (storable_records s)

@@ -6,7 +6,7 @@ use Rattle.strip.specs.Shown.{area_of, records}
 use Rattle.strip.proofs.Found.{held_is, storable_records}
 use Rattle.strip.proofs.calls.StripStore.total.Goals as goal
 
-pub returns : goal.returns
-returns c =
+pub returns-clause-value : goal.returns-clause-value
+returns-clause-value c =
     let s = c.args.self.now in
-    record { value = sym (total_arrived (records s) (limit_of (length (area_of s))) (storable_records s) ∙ held_is s); bound = c.args.self.now.room }
+    sym (total_arrived (records s) (limit_of (length (area_of s))) (storable_records s) ∙ held_is s)

@@ -6,5 +6,5 @@ use Rattle.host.proofs.host.reading.Answer.of.Goals as goal
 pub unreachable-requires : goal.unreachable-requires
 unreachable-requires c = ∥∥₁_elim c.requires (hlevel) (λ x. c.in_default.ensures.built FromTnc x.0 x.1)
 
-pub unreachable-requires-in_default-of : goal.unreachable-requires-in_default-of
-unreachable-requires-in_default-of c = ∥∥₁_elim c.requires (hlevel) (λ x. c.in_default-of.ensures.reads x.0 x.1)
+pub unreachable-requires-in_default-read : goal.unreachable-requires-in_default-read
+unreachable-requires-in_default-read c = ∥∥₁_elim c.requires (hlevel) (λ x. c.in_default-read.ensures.reads x.0 x.1)

@@ -1,9 +1,0 @@
--- No count stands above the highest channel.
-use Rattle.std.proofs.Common.{sym, arith}
-use Rattle.std.proofs.lemmas.List.{get_or_past}
-use Rattle.ends.proofs.counts.Counts.submitted.Goals as goal
-
-pub returns-then-channel-gt-LAST_CHANNEL : goal.returns-then-channel-gt-LAST_CHANNEL
-returns-then-channel-gt-LAST_CHANNEL c =
-    let all = c.args.self.now.whole in
-    sym (get_or_past c.args.self.now.submitted c.args.channel 0 (omega arith))

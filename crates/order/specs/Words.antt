@@ -1,0 +1,26 @@
+-- How numbers are written with their words, and why an order is not sent.
+use Rattle.std.specs.Prelude.{ℕ, List, ◌++◌, cond, ◌==◌, codes, decimal}
+use Rattle.order.specs.declared.words.Kind.{Kind}
+use Rattle.order.specs.declared.words.Kind.TheVariants.{Byte, Block}
+use Rattle.order.specs.declared.words.Counted.{Counted}
+use Rattle.order.specs.declared.send.SendError.{SendError}
+use Rattle.order.specs.declared.send.SendError.TheVariants.{Refused, NoMemory}
+
+abbrev pub counted : ℕ → Kind → Counted
+counted n k = record { number = n; kind = k }
+
+-- one of a kind, and several
+abbrev pub one_of : Kind → List ℕ
+one_of Byte = codes "byte"
+one_of Block = codes "block"
+
+abbrev pub many_of : Kind → List ℕ
+many_of Byte = codes "bytes"
+many_of Block = codes "blocks"
+
+abbrev pub words_of : Counted → List ℕ
+words_of c = decimal c.number ++ (codes " " ++ cond (c.number == 1) (one_of c.kind) (many_of c.kind))
+
+abbrev pub why_not_sent : SendError → List ℕ
+why_not_sent (Refused why) = codes "no frame carries a block of it"
+why_not_sent NoMemory = codes "there is no memory for it"
