@@ -10,38 +10,50 @@ pub mod case;
 mod host;
 mod tnc;
 
-// A frame's type has the lifetime of its payload, and a type parameter can't stand for it at every lifetime:
-// so each direction has a function of its own.
-fn check_host(rt: &impl Abort, heap: Global, row: usize, case: &FrameCase) -> Result<(), Fail> {
+// A frame of either direction is written as its row has it, and heard and read so. (Which type of frames it is can't be a
+// parameter here: that type has the lifetime of the payload, which is this function's own.)
+fn check_frame(
+    rt: &impl Abort,
+    heap: Global,
+    row: usize,
+    direction: Direction,
+    case: &FrameCase,
+) -> Result<(), Fail> {
     let payload = hex::decode(heap, case.payload.as_bytes())?;
     let wire = hex::decode(heap, case.wire.as_bytes())?;
-    check_written::<HostFrame>(rt, row, case, payload.as_slice(), wire.as_slice())?;
-    let reader = heard(rt, row, Direction::FromHost, wire.as_slice())?;
+    let (payload, wire) = (payload.as_slice(), wire.as_slice());
+    let reader = heard(rt, row, direction, wire)?;
     let body = reader.body().ok_or("no body")?;
-    check_read::<HostFrame>(rt, row, case, payload.as_slice(), body)
-}
-
-fn check_tnc(rt: &impl Abort, heap: Global, row: usize, case: &FrameCase) -> Result<(), Fail> {
-    let payload = hex::decode(heap, case.payload.as_bytes())?;
-    let wire = hex::decode(heap, case.wire.as_bytes())?;
-    check_written::<TncFrame>(rt, row, case, payload.as_slice(), wire.as_slice())?;
-    let reader = heard(rt, row, Direction::FromTnc, wire.as_slice())?;
-    let body = reader.body().ok_or("no body")?;
-    check_read::<TncFrame>(rt, row, case, payload.as_slice(), body)
+    match direction {
+        Direction::FromHost => {
+            check_written::<HostFrame>(rt, row, case, payload, wire)?;
+            check_read::<HostFrame>(rt, row, case, payload, body)
+        }
+        Direction::FromTnc => {
+            check_written::<TncFrame>(rt, row, case, payload, wire)?;
+            check_read::<TncFrame>(rt, row, case, payload, body)
+        }
+    }
 }
 
 #[test]
 fn host_frames(rt: HostRuntime) -> Result<(), Fail> {
-    host::FRAMES
-        .iter()
-        .enumerate()
-        .try_for_each(|(row, case)| check_host(&rt, rt.alloc(), row, case))
+    host::FRAMES.iter().enumerate().try_for_each(|(row, case)| check_frame(
+        &rt,
+        rt.alloc(),
+        row,
+        Direction::FromHost,
+        case,
+    ))
 }
 
 #[test]
 fn tnc_frames(rt: HostRuntime) -> Result<(), Fail> {
-    tnc::FRAMES
-        .iter()
-        .enumerate()
-        .try_for_each(|(row, case)| check_tnc(&rt, rt.alloc(), row, case))
+    tnc::FRAMES.iter().enumerate().try_for_each(|(row, case)| check_frame(
+        &rt,
+        rt.alloc(),
+        row,
+        Direction::FromTnc,
+        case,
+    ))
 }

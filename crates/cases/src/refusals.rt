@@ -178,8 +178,8 @@ fn check_writes(rt: &impl Abort, row: usize, case: &WriteCase) -> Result<(), Fai
 
 #[test]
 fn refused_and_left(rt: HostRuntime) -> Result<(), Fail> {
-    for (row, case) in WRITES.iter().enumerate() {
-        check_writes(&rt, row, case)?;
-    }
-    Ok(())
+    WRITES
+        .iter()
+        .enumerate()
+        .try_for_each(|(row, case)| check_writes(&rt, row, case))
 }

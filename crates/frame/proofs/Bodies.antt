@@ -101,3 +101,21 @@ head_read d body f h i b =
       reset = i.reset ∙ ap reset_in code ∙ reset_in_byte f.code f.reset f.toggle small;
       toggle = i.toggle ∙ ap toggle_in code ∙ toggle_in_byte f.code f.reset f.toggle small;
     }
+
+-- Facts that no answer needs now; they stand for whoever builds on them.
+
+pub known_host : (code : ℕ) (m : Form) → form_of FromHost code ≡ Some m → code < 2
+known_host code m e =
+    ⊎_elim (λ h. h)
+    (λ h. let n : form_of FromHost code ≡ None = grind (arith, nat_tests) in let z : ◌≡◌ {A = ℕ} 0 1 = cc in absurd (omega arith))
+    (cases_lt code 2)
+
+pub long_enough : (d : Direction) (body : List ℕ) (f : Frame) → Body d body f → 2 ≤ length body
+long_enough d body f b = let l = ap length b.bytes_are in omega arith
+
+-- code 0 of the TNC carries nothing
+pub bare_payload : (body : List ℕ) (f : Frame) → Body FromTnc body f → f.code ≡ 0 → f.payload ≡ []
+bare_payload body f b e =
+    let known : form_of FromTnc 0 ≡ Some b.form = ap (form_of FromTnc) (sym e) ∙ b.sendable.known in
+    let bare : b.form ≡ Bare = cc in
+    nil_from_length f.payload (subst (λ (m : Form). Carries m f.payload) bare b.sendable.carries)

@@ -9,7 +9,7 @@ use poll::channel::Channel;
 /// The channel byte of the general poll.
 pub const GENERAL: u8 = 0xff;
 
-/// Whom a frame is for: one channel, or all of them, as the general poll.
+/// Whom a frame is for: one channel, or all of them, as the general poll. (No Option: `None` would read as no address.)
 #[derive(Clone, Copy, PartialEq, Eq, Debug)]
 pub enum Address {
     Channel(Channel),

@@ -17,6 +17,7 @@ pub enum Cause {
 }
 
 impl Cause {
+    // One line in each enum with numbers: `as` asks for the enum by name, and so would it in each impl of a trait.
     /// The number of the cause.
     pub fn number(self) -> u8
         ensures { result ≡ cause_number self }

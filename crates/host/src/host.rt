@@ -49,7 +49,8 @@ pub struct Link {
     // whether the last answer taken refused a block
     refused: bool,
     counts: Counts,
-    // the frame on its way; `State` is handed out and copied, and a second enum of its cases to hold the frame would be no plainer
+    // the frame on its way, if the state is that one is. It is not in that case: `State` is copied and handed out, and a frame
+    // with its block can't be copied; a second enum of the same five cases, to hold it, would be no plainer.
     sent: Sent,
     ghost few: { setting ≤ most_repeats },
 }

@@ -2,8 +2,8 @@
 ghost use Rattle.std.specs.Prelude.{◌≡◌, ◌<◌};
 
 /// A doubtful block, by channel and number. It is written off or submitted again: it may not be let fall,
-/// and it is spent by either. Number 0 is the spent note; no block has it. Two plain numbers and a `drop` that demands 0 are
-/// the form that the project's rules name for such a note.
+/// and it is spent by either. Number 0 is the spent note; no block has it. (By the project's rules a note is two plain numbers,
+/// which its holder can write down, and its `drop` demands that it was spent: see docs/DECISIONS.md.)
 pub struct DoubtNote {
     channel: u8,
     number: u32,

@@ -1,7 +1,7 @@
 // The order kept in a store as it comes in: how many blocks wait there, and what they are when they are collected.
 use order::receive::{Event, Receiver};
 use order::send::CHANNEL;
-use order::words::Counted;
+use order::words::Kind;
 use std::io;
 use store::Store;
 use store::drain::drain;
@@ -40,7 +40,7 @@ impl<'a, S: Store> Keeper<'a, S> {
     // Tells whether what was collected is the order.
     fn conclude(&self, text: &[u8]) -> io::Result<()> {
         let name = self.name;
-        let came = Counted::bytes(self.collected.len());
+        let came = Kind::Byte.of(self.collected.len());
         if self.collected.as_slice() == text {
             println!(self.rt; "{name}: {came} collected, the same byte for byte.")
         } else {

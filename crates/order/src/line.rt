@@ -44,6 +44,8 @@ pub(crate) fn turn(number: usize) -> Turn
     }
 }
 
+// The allocator goes beside the bytes through all of these, as it does in std: the wire form is lent, and owns nothing.
+
 /// What a disturbance puts before a frame with this wire form.
 pub(crate) fn noise(
     heap: Global,

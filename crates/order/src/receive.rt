@@ -22,7 +22,8 @@ pub struct Receiver {
     last: Option<bool>,
 }
 
-/// What a byte brought.
+/// What a byte brought. (`More` is a case beside the others: who tells of a byte matches once, and the laws of a receiver
+/// speak of each answer by its case.)
 #[derive(Clone, Copy, PartialEq, Eq, Debug)]
 pub enum Event {
     /// No frame ended with it.
@@ -35,7 +36,7 @@ pub enum Event {
     Other,
 }
 
-/// Why a byte brought nothing.
+/// Why a byte brought nothing. (Why `SendError` is another type is said there.)
 #[derive(Clone, Copy, Debug)]
 pub enum HearError {
     /// The reader dropped a frame.

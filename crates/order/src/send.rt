@@ -17,7 +17,8 @@ use wire::writer::{Refusal, WIRE, write};
 /// The channel that orders go by.
 pub const CHANNEL: u8 = 33;
 
-/// Why an order is not sent. `HearError` has this shape too; one generic type for both would lose the names `Refused` and `Line`.
+/// Why an order is not sent. (`HearError` has this shape too. One generic type can't be both: its `From` of the error below and
+/// its `From<AllocError>` would be two for one type where that error is an `AllocError`.)
 #[derive(Clone, Copy, Debug)]
 pub enum SendError {
     /// No frame carries the block.

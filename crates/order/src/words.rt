@@ -18,23 +18,12 @@ pub struct Counted {
     pub kind: Kind,
 }
 
-impl Counted {
-    pub fn bytes(number: usize) -> Counted
-        ensures { result ≡ counted number Kind.Byte }
+impl Kind {
+    /// So many of this kind.
+    pub fn of(self, number: usize) -> Counted
+        ensures { result ≡ counted number self }
     {
-        Counted {
-            number,
-            kind: Kind::Byte,
-        }
-    }
-
-    pub fn blocks(number: usize) -> Counted
-        ensures { result ≡ counted number Kind.Block }
-    {
-        Counted {
-            number,
-            kind: Kind::Block,
-        }
+        Counted { number, kind: self }
     }
 }
 
@@ -61,11 +50,11 @@ mod tests {
     #[test]
     fn words(rt: HostRuntime) -> Result<(), Fail> {
         let cases = [
-            (Counted::bytes(0), "0 bytes"),
-            (Counted::bytes(1), "1 byte"),
-            (Counted::bytes(256), "256 bytes"),
-            (Counted::blocks(1), "1 block"),
-            (Counted::blocks(3), "3 blocks"),
+            (Kind::Byte.of(0), "0 bytes"),
+            (Kind::Byte.of(1), "1 byte"),
+            (Kind::Byte.of(256), "256 bytes"),
+            (Kind::Block.of(1), "1 block"),
+            (Kind::Block.of(3), "3 blocks"),
         ];
         for (counted, text) in cases {
             assert_eq!(rt; counted.to_string(rt.alloc())?.as_str(), text);

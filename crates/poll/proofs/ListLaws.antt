@@ -1,6 +1,6 @@
 -- The list of the waiting channels is good, ascends, and names exactly them; and how it is written, channel by channel.
-use Rattle.std.proofs.Common.{◌≡◌, ℕ, zero, suc, ◌+◌, ◌<◌, ◌≤◌, Bool, true, false, List, [], ◌∷◌, ◌++◌, length, get_or, drop, sym, ap, ◌∙◌, arith}
-use Rattle.std.proofs.lemmas.List.{append-nil, at_drop_all, get_or-take, length-take}
+use Rattle.std.proofs.Common.{◌≡◌, ℕ, zero, suc, ◌+◌, ◌<◌, ◌≤◌, Bool, true, false, List, [], ◌∷◌, ◌++◌, length, get_or, drop, sym, ap, ◌∙◌, arith, cond, take, set}
+use Rattle.std.proofs.lemmas.List.{append-nil, at_drop_all, get_or-take, length-take, append_assoc, at_drop_more, take_more_set}
 use Rattle.std.proofs.lemmas.Bool.{true≢false, false≢true}
 use Rattle.poll.specs.List.{Fresh, GoodList, listed_from, list_of, Names, Ascends}
 
@@ -58,3 +58,27 @@ good ws n k h =
 pub list_all : (xs : List ℕ) (ws : List Bool) (i : ℕ) (all : List ℕ) → length ws ≤ i → xs ++ listed_from i (drop i ws) ≡ all → xs ≡ all
 list_all xs ws i all l q =
     sym (append-nil xs) ∙ ap (λ (ys : List ℕ). xs ++ ys) (sym (at_drop_all (listed_from i) ws i l)) ∙ q
+
+-- Facts that no answer needs now; they stand for whoever builds on them.
+
+-- a channel that waits is written next
+pub list_more : (vs : List ℕ) (n v : ℕ) (ws : List Bool) (i : ℕ) (all : List ℕ) → n < length vs → i < length ws →
+    get_or ws i false ≡ true → v ≡ i + 1 → take n vs ++ listed_from i (drop i ws) ≡ all →
+    take (n + 1) (set vs n v) ++ listed_from (i + 1) (drop (i + 1) ws) ≡ all
+list_more vs n v ws i all h l t e q =
+    let rest = listed_from (i + 1) (drop (i + 1) ws) in
+    ap (λ (xs : List ℕ). xs ++ rest) (take_more_set vs n v h)
+    ∙ append_assoc (take n vs) (v ∷ []) rest
+    ∙ ap (λ (w : ℕ). take n vs ++ w ∷ rest) e
+    ∙ ap (λ (b : Bool). take n vs ++ cond b ((i + 1) ∷ rest) rest) (sym t)
+    ∙ ap (λ (xs : List ℕ). take n vs ++ xs) (sym (at_drop_more (listed_from i) ws i false l))
+    ∙ q
+
+-- a channel that does not wait is passed over
+pub list_same : (xs : List ℕ) (ws : List Bool) (i : ℕ) (all : List ℕ) → i < length ws →
+    get_or ws i false ≡ false → xs ++ listed_from i (drop i ws) ≡ all → xs ++ listed_from (i + 1) (drop (i + 1) ws) ≡ all
+list_same xs ws i all l t q =
+    let rest = listed_from (i + 1) (drop (i + 1) ws) in
+    ap (λ (b : Bool). xs ++ cond b ((i + 1) ∷ rest) rest) (sym t)
+    ∙ ap (λ (ys : List ℕ). xs ++ ys) (sym (at_drop_more (listed_from i) ws i false l))
+    ∙ q

@@ -23,8 +23,9 @@ pub struct Listed {
     ghost high: { value ≤ channels },
 }
 
-// `new` answers an Option, as that of `NonZero` does: each caller has a refusal of its own for a bad number. And no `From`
-// stands between the two types: it would be public, and they turn into each other in poll lists alone.
+// Channel and listed value are two types, so that one is never taken for the other. Each `new` answers an Option, as that of
+// `NonZero` does: each caller has a refusal of its own for a bad number. No `From` stands between them: it would be public,
+// and they turn into each other in poll lists alone. `number` and `value` say which byte it is, which a `From` doesn't.
 impl Channel {
     /// The channel of that number; none above 63.
     pub fn new(number: u8) -> Option<Channel>

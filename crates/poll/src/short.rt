@@ -5,7 +5,7 @@ ghost use Rattle.poll.specs.Channel.{channels};
 use crate::channel::CHANNELS;
 use std::alloc::AllocError;
 
-/// At most 64 items, from the start of an array.
+/// At most 64 items, from the start of an array. (The kit's `ArrayVec` is no `Copy`, and poll lists are copied.)
 #[derive(Debug)]
 pub struct ShortList<T> {
     items: [T; CHANNELS],

@@ -23,8 +23,12 @@ after_append m (x ∷ xs) ys = after_append (hears m x).then xs ys
 abbrev Keeps : Direction → Next → Type 0
 Keeps d x = x.then.direction ≡ d
 
+code_keeps : (d : Direction) (o : Option Form) (bs : List ℕ) (n : ℕ) → Keeps d (with_code d o bs n)
+code_keeps d None bs n = refl
+code_keeps d (Some m) bs n = refl
+
 byte_keeps : (d : Direction) (p : Part) (bs : List ℕ) (n b : ℕ) → Keeps d (with_byte d p bs n b)
-byte_keeps d Code bs n b = elim (form_of d (code_in b)) as (λ (o : Option Form). Keeps d (with_code d o (bs ++ b ∷ []) n)) [ None ↦ refl | Some m ↦ refl ]
+byte_keeps d Code bs n b = code_keeps d (form_of d (code_in b)) (bs ++ b ∷ []) n
 byte_keeps d Count bs n b = refl
 byte_keeps d (Block k) bs n b = refl
 byte_keeps d Text bs n b = grind arith

@@ -50,6 +50,8 @@ pub struct Fault {
 }
 
 impl Fault {
+    // One line in each enum with numbers: `as` asks for the enum by name, and so would it in each impl of a trait.
+    /// The number of its reason.
     pub fn number(self) -> u8
         ensures { result ≡ fault_number self.reason }
     {

@@ -47,7 +47,8 @@ impl Shelf {
             .position(|place| place.channel == channel)
     }
 
-    // The same by the channel's number. Refuses 10, 13.
+    // The same by the channel's number. Refuses 10, 13. (The strip has such a one over its records; one for both would be told
+    // the search, and be no shorter.)
     fn first_on(&self, channel: u8) -> Result<usize, Refusal>
         ensures { MatchResult result (IsFirst channel (entries self.now)) (λ e. first_waiting (shown self.now) channel ≡ Err e) }
     {

@@ -6,7 +6,7 @@ mod own;
 use order::blocks::block_count;
 use order::receive::{Event, HearError, Receiver};
 use order::send::{CHANNEL, send};
-use order::words::Counted;
+use order::words::Kind;
 use reader::fault::Fault;
 use std::io;
 use std::io::Read;
@@ -35,8 +35,8 @@ fn main(rt: HostRuntime) -> io::Result<()> {
     let text = order_text(&rt)?;
     println!(rt;
         "Order: {} in {} for channel {CHANNEL}.",
-        Counted::bytes(text.len()),
-        Counted::blocks(block_count(text.as_slice()))
+        Kind::Byte.of(text.len()),
+        Kind::Block.of(block_count(text.as_slice()))
     )?;
     match send(rt.alloc(), text.as_slice()) {
         Ok(line) => deliver(&rt, text.as_slice(), line.as_slice()),
@@ -80,7 +80,7 @@ fn tell(
         Ok(Event::More) => Ok(()),
         Ok(Event::Block(len, toggle)) => println!(rt;
             "byte {place}: block {block} of {of} passed, {}, toggle {}.",
-            Counted::bytes(len),
+            Kind::Byte.of(len),
             u8::from(toggle)
         ),
         Ok(Event::Repeat(toggle)) => println!(rt;
@@ -101,7 +101,7 @@ fn tell_fault(rt: &HostRuntime, place: usize, fault: Fault) -> io::Result<()> {
     println!(rt;
         "byte {place}: fault {} after {}: {}. The frame is dropped.",
         fault.number(),
-        Counted::bytes(usize::from(fault.count)),
+        Kind::Byte.of(usize::from(fault.count)),
         fault.reason
     )
 }
@@ -111,7 +111,7 @@ fn conclude(rt: &HostRuntime, tally: Tally, receiver: &Receiver, text: &[u8]) ->
         "Blocks taken: {}. Repeats left out: {}. Frames dropped: {}.",
         tally.blocks, tally.repeats, tally.dropped
     )?;
-    let came = Counted::bytes(receiver.order().len());
+    let came = Kind::Byte.of(receiver.order().len());
     if receiver.arrived(text) {
         println!(rt; "The order arrived whole: {came}, the same byte for byte.")
     } else {

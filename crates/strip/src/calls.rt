@@ -59,7 +59,7 @@ impl<'a> Strip<'a> {
         self.records().find(|record| record.channel == channel)
     }
 
-    // The same, or why there is none. Refuses 10, 13.
+    // The same, or why there is none. Refuses 10, 13. (The shelf has such a one over its places.)
     fn first_on(&self, channel: u8) -> Result<Record, Refusal>
         ensures { MatchResult result (FirstOn self.now channel) (λ e. first_waiting (shown self.now) channel ≡ Err e) }
     {

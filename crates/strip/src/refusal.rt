@@ -12,6 +12,7 @@ pub enum AreaRefusal {
 }
 
 impl AreaRefusal {
+    // One line in each enum with numbers: `as` asks for the enum by name, and so would it in each impl of a trait.
     /// The number of the refusal.
     pub fn number(self) -> u8
         ensures { result ≡ refusal_number self }

@@ -1,8 +1,8 @@
 -- Laws of stuffing, of writing over a buffer, and of the wire form.
-use Rattle.std.proofs.Common.{◌≡◌, ℕ, ◌+◌, ◌*◌, ◌<◌, ◌≤◌, true, false, cond, eqb, List, [], ◌∷◌, ◌++◌, length, get_or, take, drop, set, sym, refl, ap, ◌∙◌, ap₂, append_assoc, append-nil, zero-add, add-one, arith, length-append}
+use Rattle.std.proofs.Common.{◌≡◌, ℕ, ◌+◌, ◌*◌, ◌<◌, ◌≤◌, true, false, cond, eqb, List, [], ◌∷◌, ◌++◌, length, get_or, take, drop, set, sym, refl, ap, ◌∙◌, ap₂, append_assoc, append-nil, zero-add, add-one, arith, length-append, subst}
 use lib.Seq.{paste}
 use Rattle.std.proofs.lemmas.List.{take_more, set_split, take-append-drop, take_all}
-use Rattle.std.proofs.lemmas.List.Edits.{paste_none, paste-paste, take-paste, drop-paste}
+use Rattle.std.proofs.lemmas.List.Edits.{paste_none, paste-paste, take-paste, drop-paste, length-paste}
 use Rattle.std.proofs.lemmas.Bool.{cond-true, cond-false, eq-eqb, ne_eqb}
 use Rattle.fcs.specs.Fcs.{extended, check_bytes, check_of}
 use Rattle.fcs.proofs.Extended.{extended_append}
@@ -142,3 +142,39 @@ length_cons x xs = length-append (stuff x) (stuffed xs)
 pub stuffed_double : (xs : List ℕ) → length (stuffed xs) ≤ 2 * length xs
 stuffed_double [] = let z = ap length stuffed_none in omega arith
 stuffed_double (x ∷ xs) = omega (arith, length_cons x xs, length_most x, stuffed_double xs)
+
+-- Facts that no answer needs now; they stand for whoever builds on them.
+
+pub length_over : (d : List ℕ) (at : ℕ) (s : List ℕ) → at + length s ≤ length d → length (over d at s) ≡ length d
+unfolding over
+length_over d at s h = length-paste d at s (length s) h (omega arith)
+
+pub put_mark : (d : List ℕ) (at b : ℕ) → b ≡ 170 → at + 1 < length d → set (set d at b) (at + 1) 0 ≡ over d at (stuff b)
+put_mark d at b e h =
+    subst (λ (x : ℕ). set (set d at x) (at + 1) 0 ≡ over d at (stuff x)) (sym e)
+    (ap (λ (l : List ℕ). set l (at + 1) 0) (over_one d at 170 (omega arith))
+    ∙ over_one (over d at (170 ∷ [])) (at + 1) 0 (omega (arith, length_over d at (170 ∷ []) (omega arith)))
+    ∙ over_over d at (170 ∷ []) (0 ∷ []) (at + 1) (omega arith) refl)
+
+pub put_other : (d : List ℕ) (at b : ℕ) → (b ≡ 170 → ⊥) → at < length d → set d at b ≡ over d at (stuff b)
+put_other d at b ne h = over_one d at b h ∙ ap (over d at) (sym (cond-false (eqb b 170) (b ∷ 0 ∷ []) (b ∷ []) (ne_eqb b 170 ne)))
+
+pub over_marks : (d : List ℕ) → 2 ≤ length d → set (set d 0 170) 1 170 ≡ over d 0 (170 ∷ 170 ∷ [])
+over_marks d h =
+    ap (λ (l : List ℕ). set l 1 170) (over_one d 0 170 (omega arith))
+    ∙ over_one (over d 0 (170 ∷ [])) 1 170 (omega (arith, length_over d 0 (170 ∷ []) (omega arith)))
+    ∙ over_over d 0 (170 ∷ []) (170 ∷ []) 1 (omega arith) refl
+
+-- four pieces written one after the other are written at once
+pub over_four : (d : List ℕ) (a b c e : List ℕ) (k l m n : ℕ) → 2 + length a + length b + length c + length e ≤ length d
+    → k ≡ 2 → l ≡ k + length a → m ≡ l + length b → n ≡ m + length c
+    → over (over (over (over (over d 0 (170 ∷ 170 ∷ [])) k a) l b) m c) n e ≡ over d 0 ((170 ∷ 170 ∷ []) ++ a ++ b ++ c ++ e)
+over_four d a b c e k l m n fits hk hl hm hn =
+    let marks : List ℕ = 170 ∷ 170 ∷ [] in
+    let la = length-append marks a in
+    let lb = length-append (marks ++ a) b in
+    let lc = length-append (marks ++ a ++ b) c in
+    ap (λ (w : List ℕ). over (over (over w l b) m c) n e) (over_over d 0 marks a k (omega arith) (omega arith))
+    ∙ ap (λ (w : List ℕ). over (over w m c) n e) (over_over d 0 (marks ++ a) b l (omega arith) (omega arith))
+    ∙ ap (λ (w : List ℕ). over w n e) (over_over d 0 (marks ++ a ++ b) c m (omega arith) (omega arith))
+    ∙ over_over d 0 (marks ++ a ++ b ++ c) e n (omega arith) (omega arith)

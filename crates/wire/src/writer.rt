@@ -26,6 +26,8 @@ pub enum Refusal {
 }
 
 impl Refusal {
+    // One line in each enum with numbers: `as` asks for the enum by name, and so would it in each impl of a trait.
+    /// The number of the refusal.
     pub fn number(self) -> u8
         ensures { result ≡ refusal_number self }
     {
@@ -45,7 +47,8 @@ pub fn write<'a, F: Parsed<'a>>(head: Head, frame: F, wire: &mut [u8]) -> Result
     lay(head, frame.code(), form, frame.payload(), wire)
 }
 
-// The part of it that knows a frame by its code, the form that goes with that, and its payload: the same for each type.
+// The part of it that is the same for each type of frames, and so is told the code, and the form that goes with it: inside
+// `write` it is no shorter, and each way out has the bound on all wire forms to prove once more.
 fn lay(head: Head, code: u8, form: Form, payload: &[u8], wire: &mut [u8]) -> Result<usize, Refusal>
     requires { code < 8 }
     ensures { Lays form (framed head (shows code payload.now)) wire.old wire.new result }
@@ -103,7 +106,7 @@ fn check(front: &[u8], payload: &[u8], back: &[u8]) -> [u8; 2]
     fcs::checksum(register)
 }
 
-// Writes a buffer from its start on: the buffer, and how far it is written.
+// Writes a buffer from its start on: the buffer, which is the caller's, and how far it is written.
 #[derive(Drop)]
 struct Pen<'a> {
     wire: &'a mut [u8],

@@ -1,4 +1,5 @@
-// A row of a table of frames, and what is checked of it in either direction.
+// A row of a table of frames, and what is checked of it in either direction. (Here and in the other tables the runtime and
+// the number of the row go along side by side: each assertion names both.)
 use frame::form::Direction;
 use frame::frames::{Parsed, read};
 use frame::head::{Address, Head};
@@ -47,13 +48,11 @@ pub(crate) fn check_written<'a, F: Parsed<'a>>(
     let len = write(case.head()?, frame, &mut buffer)?;
     assert_eq!(rt; len, wire.len(), "written, row {row}");
     assert!(rt; len <= buffer.len(), "written, row {row}");
-    for (i, b) in buffer.iter().enumerate() {
-        assert_eq!(rt;
-            *b,
-            wire.get(i).copied().unwrap_or(BLANK),
-            "written, row {row}"
-        );
-    }
+    assert!(rt; &buffer[..len] == wire, "written, row {row}");
+    assert!(rt;
+        buffer[len..].iter().all(|b| *b == BLANK),
+        "written, row {row}"
+    );
     Ok(())
 }
 

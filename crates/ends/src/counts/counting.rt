@@ -29,7 +29,7 @@ impl Counts {
         ensures { result ≡ count_of self.now channel }
     {
         self.by_channel
-            .get(channel as usize)
+            .get(usize::from(channel))
             .copied()
             .unwrap_or_default()
     }
@@ -55,7 +55,7 @@ impl Counts {
         ensures gone { gone_of self.new ≡ changed true channel.number one_more_counted (gone_of self.old) }
         ensures submitted { submitted_of self.new ≡ submitted_of self.old }
     {
-        let count = &mut self.by_channel[channel.number() as usize];
+        let count = &mut self.by_channel[usize::from(channel.number())];
         count.gone = count.gone.saturating_add(1);
         count.gone
     }
@@ -72,7 +72,7 @@ impl Counts {
         ensures gone { gone_of self.new ≡ gone_of self.old }
         ensures store { S.Store.meaning store.new ≡ submit_store (submitted_of self.old) (S.Store.meaning store.old) channel (plain block.now) }
     {
-        let place = checks::channel(channel)?.number() as usize;
+        let place = usize::from(checks::channel(channel)?.number());
         checks::block(block)?;
         let count = &mut self.by_channel[place];
         if count.submitted == LAST_NUMBER {

@@ -104,7 +104,7 @@ impl Link {
         ensures { result ≡ repeats_of (host_of self.now).state }
     {
         match self.state {
-            State::Opening(repeats) | State::OnItsWay(repeats) => repeats as u16,
+            State::Opening(repeats) | State::OnItsWay(repeats) => u16::from(repeats),
             State::Fresh | State::Idle | State::Down => 0,
         }
     }
@@ -125,5 +125,5 @@ fn lower(spare: u16) -> u16
 fn spare_after(resets: u32) -> u16
     ensures { result ≡ opened_spare resets }
 {
-    resets.saturating_sub(1).min(LAST_SPARE as u32) as u16
+    resets.saturating_sub(1).min(u32::from(LAST_SPARE)) as u16
 }

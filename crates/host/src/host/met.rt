@@ -34,7 +34,8 @@ pub enum Met {
     Received,
     /// The general poll's answer, with the channels to poll.
     Listed(PollList),
-    /// The incoming store has no room; the frame counts as unheard.
+    /// The incoming store has no room; the frame counts as unheard. (A rule beside the others, as the definitions have it;
+    /// that the call then refuses is said where rules are followed.)
     NoRoom,
     Falls(Cause),
 }

@@ -1,13 +1,7 @@
 -- One byte more stands at the end and in the register.
-use Rattle.std.proofs.Common.{◌≡◌, ℕ, ◌+◌, ◌<◌, List, [], ◌∷◌, length, take, set, ap, ◌∙◌, arith, length-take-le}
-use Rattle.std.proofs.lemmas.List.{take_more_set}
-use Rattle.fcs.specs.Fcs.{step_of, extended, register_of}
-use Rattle.fcs.proofs.Extended.{extended_append}
+use Rattle.std.proofs.Common.{length, ap, arith, length-take-le}
+use Rattle.reader.proofs.Fields.{register_more}
 use Rattle.reader.proofs.body.Body.push.Goals as goal
-
-register_more : (body : List ℕ) (n b : ℕ) → n < length body → register_of (take (n + 1) (set body n b)) ≡ step_of (register_of (take n body)) b
-unfolding extended
-register_more body n b h = ap register_of (take_more_set body n b h) ∙ extended_append 65535 (take n body) (b ∷ [])
 
 pub invariant_of-self : goal.invariant_of-self
 invariant_of-self c =
