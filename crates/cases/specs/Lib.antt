@@ -1,3 +1,3 @@
 -- The cases that are proved.
-pub mod Proved
 pub mod StoreCases
+pub mod Proved

@@ -13,6 +13,7 @@ use Rattle.reader.specs.declared.state.State.TheVariants.{Inside}
 use Rattle.reader.specs.Fault.{fault_number}
 use Rattle.reader.specs.Read.{at, fresh, fault_of, hears}
 use Rattle.reader.specs.Laws.{after}
+use Rattle.cases.specs.StoreCases.{StoreCases}
 
 -- a frame of the host on channel 33
 abbrev pub information : List ℕ → Frame
@@ -40,3 +41,5 @@ pub record ProvedCases : Type 0 where
   pub code_87 : (code_in 135 ≡ 7) × (reset_in 135 ≡ false) × (toggle_in 135 ≡ true)
   -- an empty list after a reset of toggle 0 is FF 41 00
   pub empty_list_body : body_of form.Text empty_list ≡ 255 ∷ 65 ∷ 0 ∷ []
+  -- those of the stores
+  pub stores : StoreCases

@@ -20,13 +20,13 @@ mod strips;
 
 /// How many cases are proved, and that each of them holds of the rules.
 pub fn proved_cases() -> u8
-    ensures count { result ≡ 6 }
+    ensures count { result ≡ 9 }
     ensures hold { ProvedCases }
 {
-    6
+    9
 }
 
-/// How many cases of the stores are proved, and that each of them holds of the rules.
+/// How many of them are cases of the stores, and that each of those holds of the rules.
 pub fn proved_store_cases() -> u8
     ensures count { result ≡ 3 }
     ensures hold { StoreCases }

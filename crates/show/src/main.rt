@@ -1,15 +1,23 @@
-// An order goes from the terminal over a noisy line to the modem, and what passes on the way is told in words.
+// An order goes from the terminal over a noisy line to the modem, and what passes on the way is told in words. What came is
+// kept in a store of each kind, and collected.
 #![tactic(auto)]
 
+mod keeping;
 mod own;
 
+use crate::keeping::Keeper;
 use order::blocks::block_count;
 use order::receive::{Event, HearError, Receiver};
 use order::send::{CHANNEL, send};
 use order::words::Kind;
 use reader::fault::Fault;
+use shelf::Shelf;
 use std::io;
 use std::io::Read;
+use strip::{RECORD, Strip};
+
+// The area of the strip that the order is kept in: room for four blocks.
+const AREA: usize = 4 * RECORD;
 
 // What came over the line so far.
 #[derive(Clone, Copy, Default)]
@@ -39,7 +47,10 @@ fn main(rt: HostRuntime) -> io::Result<()> {
         Kind::Block.of(block_count(text.as_slice()))
     )?;
     match send(rt.alloc(), text.as_slice()) {
-        Ok(line) => deliver(&rt, text.as_slice(), line.as_slice()),
+        Ok(line) => {
+            deliver(&rt, text.as_slice(), line.as_slice())?;
+            keep(&rt, text.as_slice(), line.as_slice())
+        }
         Err(error) => println!(rt; "The order was not sent: {error}."),
     }
 }
@@ -119,5 +130,18 @@ fn conclude(rt: &HostRuntime, tally: Tally, receiver: &Receiver, text: &[u8]) ->
             "The order did not arrive as it was sent: {came} came, and {} were sent.",
             text.len()
         )
+    }
+}
+
+// Keeps the order in a store of each kind, and collects it.
+fn keep(rt: &HostRuntime, text: &[u8], line: &[u8]) -> io::Result<()> {
+    Keeper::new(rt, "Shelf", &mut Shelf::new()).keep(line, text)?;
+    let mut area = [0; AREA];
+    match Strip::over(&mut area) {
+        Ok(mut strip) => Keeper::new(rt, "Strip", &mut strip).keep(line, text),
+        Err(refusal) => println!(rt;
+            "No strip is made of {AREA} bytes: refusal {}.",
+            refusal.number()
+        ),
     }
 }
