@@ -119,3 +119,7 @@ bare_payload body f b e =
     let known : form_of FromTnc 0 ≡ Some b.form = ap (form_of FromTnc) (sym e) ∙ b.sendable.known in
     let bare : b.form ≡ Bare = cc in
     nil_from_length f.payload (subst (λ (m : Form). Carries m f.payload) bare b.sendable.carries)
+
+-- a body whose code is unknown is that of no frame
+pub no_form : (d : Direction) (body : List ℕ) → form_of d (code_in (get_or body 1 0)) ≡ None → (f : Frame) → Body d body f → ⊥
+no_form d body e f b = let p = form_read d body f b in let z : ◌≡◌ {A = ℕ} 0 1 = cc in omega arith

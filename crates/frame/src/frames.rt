@@ -24,7 +24,7 @@ pub trait Parsed<'a>: Copy {
     fn with(code: u8, payload: &'a [u8]) -> Option<Self>
         ensures { option_map shows result ≡ shown_of direction code payload.now };
 
-    /// The code of its case.
+    /// The code of its case. (A match in each impl: a case with a field has no number of its own.)
     fn code(self) -> u8
         ensures { result ≡ (shows self).code };
 

@@ -17,8 +17,8 @@ use wire::writer::{Refusal, WIRE, write};
 /// The channel that orders go by.
 pub const CHANNEL: u8 = 33;
 
-/// Why an order is not sent. (`HearError` has this shape too. One generic type can't be both: its `From` of the error below and
-/// its `From<AllocError>` would be two for one type where that error is an `AllocError`.)
+/// Why an order is not sent. (`HearError` has this shape too. One generic type for both would be no plainer: each keeps its own
+/// `From` of the error below, only this one is printed, and `Refused` and `Line` say more than one name for both.)
 #[derive(Clone, Copy, Debug)]
 pub enum SendError {
     /// No frame carries the block.
