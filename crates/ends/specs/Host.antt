@@ -41,6 +41,10 @@ new_host setting = record { setting = setting; state = fresh; generation = false
 abbrev pub in_state : Host → State → Host
 in_state h s = record { setting = h.setting; state = s; generation = h.generation; last = h.last; spare = h.spare; resets = h.resets; poll_list = h.poll_list; block_refused = h.block_refused; submitted = h.submitted; gone = h.gone }
 
+-- after submissions: only their counts are others
+abbrev pub host_counts : Host → (ℕ → ℕ) → Host
+host_counts h s = record { setting = h.setting; state = h.state; generation = h.generation; last = h.last; spare = h.spare; resets = h.resets; poll_list = h.poll_list; block_refused = h.block_refused; submitted = s; gone = h.gone }
+
 -- what a call leaves of the host and its two stores, what it writes, and the block that its answer names
 pub record HostStep : Type 0 where
   pub host : Host

@@ -26,6 +26,10 @@ no_answer = record { channel = general; reset = false; toggle = false; reply = s
 abbrev pub new_tnc : Tnc
 new_tnc = record { ready = false; last = false; held = no_answer; submitted = λ c. 0; gone = λ c. 0 }
 
+-- after submissions: only their counts are others
+abbrev pub tnc_counts : Tnc → (ℕ → ℕ) → Tnc
+tnc_counts t s = record { ready = t.ready; last = t.last; held = t.held; submitted = s; gone = t.gone }
+
 -- what hearing a frame leaves of the TNC and its two stores, what it writes, and the block that its answer names
 pub record TncStep : Type 0 where
   pub tnc : Tnc

@@ -11,8 +11,8 @@ use Rattle.store.specs.Calls.{shown_by}
 use Rattle.ends.specs.Frames.{poll, Request, Answer, request_body, answer_body, request_read, answer_read, Written, nothing, one}
 use Rattle.ends.specs.Blocks.{changed, Word, silent, confirms, doubts, granted, submit_answer, submit_counts, submit_store, collect_store}
 use Rattle.ends.specs.Heard.{body_heard}
-use Rattle.ends.specs.Host.{Host, new_host, HostStep, Sending, not_allowed, sends, sends_again, gives_up, open_rule, step_rule, timer_rule, open_step, step_step, timer_step, hear_step}
-use Rattle.ends.specs.Tnc.{Tnc, new_tnc, no_answer, TncStep, tnc_step}
+use Rattle.ends.specs.Host.{Host, new_host, host_counts, HostStep, Sending, not_allowed, sends, sends_again, gives_up, open_rule, step_rule, timer_rule, open_step, step_step, timer_step, hear_step}
+use Rattle.ends.specs.Tnc.{Tnc, new_tnc, tnc_counts, no_answer, TncStep, tnc_step}
 
 -- WHAT A RUN KEEPS
 
@@ -187,13 +187,7 @@ abbrev pub tnc_hears : Option (List ℕ) → ℕ → World → World
 tnc_hears None i w = w
 tnc_hears (Some body) i w = after_tnc (tnc_step w.tnc w.tnc_out w.tnc_in (request_read body)) i w
 
--- submit and collect
-abbrev pub host_counts : Host → (ℕ → ℕ) → Host
-host_counts h s = record { setting = h.setting; state = h.state; generation = h.generation; last = h.last; spare = h.spare; resets = h.resets; poll_list = h.poll_list; block_refused = h.block_refused; submitted = s; gone = h.gone }
-
-abbrev pub tnc_counts : Tnc → (ℕ → ℕ) → Tnc
-tnc_counts t s = record { ready = t.ready; last = t.last; held = t.held; submitted = s; gone = t.gone }
-
+-- what submit and collect do
 abbrev pub host_submits : ℕ → Block → World → World
 host_submits c b w = record {
   host = host_counts w.host (submit_counts w.host.submitted w.host_out c b);
