@@ -18,6 +18,7 @@ use Rattle.host.specs.declared.answer.StepRule.TheVariants as step
 use Rattle.host.specs.declared.answer.Stepped.{Stepped}
 use Rattle.host.specs.declared.answer.Timed.{Timed}
 use Rattle.host.specs.declared.answer.Timed.TheVariants as timed
+use Rattle.host.specs.declared.answer.Returned.{Returned}
 use Rattle.host.specs.declared.answer.Heard.{Heard}
 use Rattle.host.specs.declared.answer.Heard.TheVariants as heard
 
@@ -114,3 +115,8 @@ abbrev pub timed_word : Result Timed Refusal → Word
 timed_word (Ok (timed.Repeated n)) = silent
 timed_word (Ok (timed.Down f)) = doubt_word f.doubt
 timed_word (Err e) = silent
+
+-- submit again: the block's number, or the refusal with the note handed back
+abbrev pub again_answer : Result ℕ Refusal → DoubtNote → Result ℕ Returned
+again_answer (Ok n) note = Ok n
+again_answer (Err e) note = Err (record { refusal = e; note = note })

@@ -4,6 +4,7 @@ ghost use Rattle.host.specs.Cause.{cause_number};
 
 use crate::note::DoubtNote;
 use ends::name::BlockName;
+use ends::refusal::Refusal;
 
 /// Why the link went down.
 #[derive(Clone, Copy, PartialEq, Eq, Debug)]
@@ -68,4 +69,10 @@ pub enum Heard {
     Received,
     Listed,
     Down(Fall),
+}
+
+/// A refused submission of a doubtful block: why, and its note, unspent.
+pub struct Returned {
+    pub refusal: Refusal,
+    pub note: DoubtNote,
 }

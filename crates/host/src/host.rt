@@ -16,6 +16,7 @@ pub mod met;
 pub mod opening;
 pub mod reading;
 pub mod stepping;
+pub mod submitting;
 pub mod timing;
 
 /// Where the host stands.

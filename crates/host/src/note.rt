@@ -45,7 +45,9 @@ impl DoubtNote {
 
     /// Spends the note, always: the block is given up, and if it has arrived after all, that is well.
     pub fn write_off(mut self) {
-        self.number = 0;
+        if self.number > 0 {
+            self.spend();
+        }
     }
 
     /// Spends the note in place; a spent one is not taken.

@@ -1,5 +1,5 @@
 // What is counted at an end: submissions, and blocks that go.
-ghost use Rattle.std.specs.Prelude.{◌≡◌, ◌≤◌, true};
+ghost use Rattle.std.specs.Prelude.{◌≡◌, ◌≤◌, ◌-◌, true};
 ghost use Rattle.store.specs.Meaning.{plain};
 ghost use Rattle.ends.specs.Blocks.{changed, one_more_counted, submit_answer, submit_counts, submit_store};
 ghost use Rattle.ends.specs.Counts.{none, count_of, submitted_of, gone_of};
@@ -46,6 +46,13 @@ impl Counts {
         ensures { result ≡ gone_of self.now channel }
     {
         self.of(channel).gone
+    }
+
+    /// How many blocks of a channel were submitted and are not gone; 0 above the highest.
+    pub fn waiting(&self, channel: u8) -> u32
+        ensures { result ≡ submitted_of self.now channel - gone_of self.now channel }
+    {
+        self.submitted(channel).saturating_sub(self.gone(channel))
     }
 
     /// One more block of the channel is gone; answers its number.

@@ -19,7 +19,7 @@ use store::Store;
 impl Host {
     /// Hears one byte; where a frame ends with it, follows the rule that the frame meets, and answers which.
     /// Refuses as the reader, and 9: the frame then counts as unheard.
-    pub(crate) fn hear<O: Store, I: Store>(
+    pub fn hear<O: Store, I: Store>(
         &mut self,
         out: &mut O,
         inn: &mut I,

@@ -1,5 +1,5 @@
 // How a host is made, and what it is asked.
-ghost use Rattle.std.specs.Prelude.{◌≡◌, ◌<◌, MatchResult};
+ghost use Rattle.std.specs.Prelude.{◌≡◌, ◌<◌, ◌-◌, MatchResult};
 ghost use Rattle.reader.specs.Read.{fresh};
 ghost use Rattle.ends.specs.declared.refusal.Refusal.TheVariants.{ManyRepeats};
 ghost use Rattle.ends.specs.Limits.{most_repeats};
@@ -74,5 +74,12 @@ impl Host {
         ensures { result ≡ (host_of self.now.link).gone channel }
     {
         self.link.counts.gone(channel)
+    }
+
+    /// How many blocks of a channel were submitted and are not gone.
+    pub fn waiting(&self, channel: u8) -> u32
+        ensures { result ≡ (host_of self.now.link).submitted channel - (host_of self.now.link).gone channel }
+    {
+        self.link.counts.waiting(channel)
     }
 }

@@ -17,7 +17,7 @@ const MOST_RESETS: u32 = 65_536;
 
 impl Host {
     /// Sends the flagged general poll, from fresh or down. Refuses 16, 14.
-    pub(crate) fn open(&mut self, wire: &mut [u8]) -> Result<usize, Refusal>
+    pub fn open(&mut self, wire: &mut [u8]) -> Result<usize, Refusal>
         ensures answer { result ≡ open_answer (host_of self.old.link) (length wire.old) }
         ensures after { (out inn : Meaning) → Left (open_call (length wire.old) (host_of self.old.link) out inn) self.old self.new out inn wire.old wire.new }
     {

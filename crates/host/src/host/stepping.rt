@@ -26,7 +26,7 @@ impl Host {
     /// Sends the first that applies, with the toggle opposite to the last: a general poll if the last answer taken refused
     /// a block; a poll of the first channel left on the list, which leaves it; the first block of the lowest channel that
     /// has one; a general poll. Refuses 16 unless idle, and 14.
-    pub(crate) fn step<O: Store>(&mut self, out: &O, wire: &mut [u8]) -> Result<Stepped, Refusal>
+    pub fn step<O: Store>(&mut self, out: &O, wire: &mut [u8]) -> Result<Stepped, Refusal>
         ensures answer { result ≡ step_answer (host_of self.old.link) (O.Store.meaning out.now) (length wire.old) }
         ensures after { (inn : Meaning) → Left (step_call (length wire.old) (host_of self.old.link) (O.Store.meaning out.now) inn) self.old self.new (O.Store.meaning out.now) inn wire.old wire.new }
     {

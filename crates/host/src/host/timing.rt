@@ -17,7 +17,7 @@ use wire::writer::WIRE;
 impl Host {
     /// Sends the frame on its way again, as kept, while its repeats are below the setting; else the link goes down.
     /// Refuses 16 where no frame is on its way, and 14.
-    pub(crate) fn timer<O: Store>(&mut self, out: &mut O, wire: &mut [u8]) -> Result<Timed, Refusal>
+    pub fn timer<O: Store>(&mut self, out: &mut O, wire: &mut [u8]) -> Result<Timed, Refusal>
         ensures answer { result ≡ timer_answer (host_of self.old.link) (length wire.old) }
         ensures named { (inn : Meaning) → timed_word result ≡ (timer_call (length wire.old) (host_of self.old.link) (O.Store.meaning out.old) inn).word }
         ensures after { (inn : Meaning) → Left (timer_call (length wire.old) (host_of self.old.link) (O.Store.meaning out.old) inn) self.old self.new (O.Store.meaning out.new) inn wire.old wire.new }

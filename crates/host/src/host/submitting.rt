@@ -1,0 +1,68 @@
+// Blocks that are handed to the host, and those that it hands out.
+ghost use Rattle.std.specs.Prelude.{◌≡◌, length};
+ghost use Rattle.store.specs.Meaning.{plain};
+ghost use Rattle.store.specs.Rules.{copy_source, written_over};
+ghost use Rattle.ends.specs.Blocks.{submit_answer, submit_counts, submit_store, collect_answer, collect_store};
+ghost use Rattle.ends.specs.Host.{host_counts};
+ghost use Rattle.host.specs.Model.{host_of};
+ghost use Rattle.host.specs.Answers.{again_answer};
+
+use super::Host;
+use crate::answer::Returned;
+use crate::note::DoubtNote;
+use ends::collect::collect;
+use ends::refusal::Refusal;
+use store::Store;
+
+impl Host {
+    /// Puts a block into the outgoing store, and answers its number on the channel. Refuses 10, 11, 15, then as the store.
+    pub fn submit<O: Store>(
+        &mut self,
+        out: &mut O,
+        channel: u8,
+        block: &[u8],
+    ) -> Result<u32, Refusal>
+        ensures answer { result ≡ submit_answer (host_of self.old.link).submitted (O.Store.meaning out.old) channel (plain block.now) }
+        ensures after { host_of self.new.link ≡ host_counts (host_of self.old.link) (submit_counts (host_of self.old.link).submitted (O.Store.meaning out.old) channel (plain block.now)) }
+        ensures ear { self.new.ear ≡ self.old.ear }
+        ensures out { O.Store.meaning out.new ≡ submit_store (host_of self.old.link).submitted (O.Store.meaning out.old) channel (plain block.now) }
+    {
+        self.link.counts.submit(out, channel, block)
+    }
+
+    /// Submits a doubtful block once more, on its note's channel, which spends the note. A refusal hands the note back.
+    pub fn submit_again<O: Store>(
+        &mut self,
+        out: &mut O,
+        note: DoubtNote,
+        block: &[u8],
+    ) -> Result<u32, Returned>
+        ensures answer { result ≡ again_answer (submit_answer (host_of self.old.link).submitted (O.Store.meaning out.old) note.channel (plain block.now)) note }
+        ensures after { host_of self.new.link ≡ host_counts (host_of self.old.link) (submit_counts (host_of self.old.link).submitted (O.Store.meaning out.old) note.channel (plain block.now)) }
+        ensures ear { self.new.ear ≡ self.old.ear }
+        ensures out { O.Store.meaning out.new ≡ submit_store (host_of self.old.link).submitted (O.Store.meaning out.old) note.channel (plain block.now) }
+    {
+        match self.submit(out, note.channel(), block) {
+            Ok(number) => {
+                note.write_off();
+                Ok(number)
+            }
+            Err(refusal) => Err(Returned { refusal, note }),
+        }
+    }
+
+    /// Hands out the first block of a channel, to the start of the buffer, and takes it from the incoming store.
+    /// Refuses 14, 10, 13.
+    pub fn collect<I: Store>(
+        &self,
+        inn: &mut I,
+        channel: u8,
+        buffer: &mut [u8],
+    ) -> Result<usize, Refusal>
+        ensures answer { result ≡ collect_answer (I.Store.meaning inn.old) channel (length buffer.old) }
+        ensures buffer { buffer.new ≡ written_over (copy_source (I.Store.meaning inn.old) channel (length buffer.old)) buffer.old }
+        ensures inn { I.Store.meaning inn.new ≡ collect_store (I.Store.meaning inn.old) channel (length buffer.old) }
+    {
+        collect(inn, channel, buffer)
+    }
+}
