@@ -66,6 +66,11 @@ repeat_length model.down h = 0
 abbrev pub timer_answer : model.Host → ℕ → Result Timed Refusal
 timer_answer h size = sent (timer_rule h.setting h.state) size (timed.Repeated (repeat_length h.state h)) (timed.Down (fall_by cause.RepeatsUsed (loss_word h)))
 
+-- how many bytes it sent
+abbrev pub timed_length : Timed → ℕ
+timed_length (timed.Repeated n) = n
+timed_length (timed.Down f) = 0
+
 -- hear: the rule met, and the block that it names
 abbrev pub cause_of : ℕ → Cause
 cause_of n = cond (n == 1) cause.RepeatsUsed (cond (n == 2) cause.SpareUsed cause.WrongAnswer)

@@ -3,7 +3,7 @@
 
 ghost use Rattle.law.specs.Law.{DeliveryLaw};
 
-// The law itself. It is proved of the rules; it opens to the public with the calls that follow them.
-fn delivery_law_stands()
+/// The law itself, of every list of calls. The calls of both ends follow the rules that its runs are made of.
+pub fn delivery_law_stands()
     ensures { DeliveryLaw }
 {}

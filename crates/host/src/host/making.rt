@@ -48,6 +48,13 @@ impl Host {
         })
     }
 
+    /// What the host hears with, for whoever watches the line: it shows the body that passed with the last byte.
+    pub fn ear(&self) -> &Ear
+        ensures { result.now ≡ self.now.ear }
+    {
+        &self.ear
+    }
+
     /// Where the host stands.
     pub fn state(&self) -> State
         ensures { result ≡ self.now.link.state }

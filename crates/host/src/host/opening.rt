@@ -1,5 +1,5 @@
 // Opening the link.
-ghost use Rattle.std.specs.Prelude.{◌≡◌, length};
+ghost use Rattle.std.specs.Prelude.{◌≡◌, ◌≤◌, length, IfOk};
 ghost use Rattle.store.specs.Meaning.{Meaning};
 ghost use Rattle.ends.specs.Host.{one_reset_more, open_call};
 ghost use Rattle.host.specs.Model.{host_of};
@@ -19,6 +19,7 @@ impl Host {
     /// Sends the flagged general poll, from fresh or down. Refuses 16, 14.
     pub fn open(&mut self, wire: &mut [u8]) -> Result<usize, Refusal>
         ensures answer { result ≡ open_answer (host_of self.old.link) (length wire.old) }
+        ensures bound { IfOk result (λ n. n ≤ length wire.old) }
         ensures after { (out inn : Meaning) → Left (open_call (length wire.old) (host_of self.old.link) out inn) self.old self.new out inn wire.old wire.new }
     {
         match self.link.state {

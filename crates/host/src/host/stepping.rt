@@ -1,5 +1,5 @@
 // The step: what is sent next.
-ghost use Rattle.std.specs.Prelude.{◌≡◌, length};
+ghost use Rattle.std.specs.Prelude.{◌≡◌, ◌≤◌, length, IfOk};
 ghost use Rattle.store.specs.Meaning.{Meaning};
 ghost use Rattle.ends.specs.Host.{step_call};
 ghost use Rattle.host.specs.Model.{host_of};
@@ -28,6 +28,7 @@ impl Host {
     /// has one; a general poll. Refuses 16 unless idle, and 14.
     pub fn step<O: Store>(&mut self, out: &O, wire: &mut [u8]) -> Result<Stepped, Refusal>
         ensures answer { result ≡ step_answer (host_of self.old.link) (O.Store.meaning out.now) (length wire.old) }
+        ensures bound { IfOk result (λ s. s.sent ≤ length wire.old) }
         ensures after { (inn : Meaning) → Left (step_call (length wire.old) (host_of self.old.link) (O.Store.meaning out.now) inn) self.old self.new (O.Store.meaning out.now) inn wire.old wire.new }
     {
         match self.link.state {

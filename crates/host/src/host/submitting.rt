@@ -1,5 +1,6 @@
 // Blocks that are handed to the host, and those that it hands out.
-ghost use Rattle.std.specs.Prelude.{◌≡◌, length};
+ghost use Rattle.std.specs.Prelude.{◌≡◌, ◌≤◌, length, IfOk};
+ghost use Rattle.frame.specs.Frame.{longest_block};
 ghost use Rattle.store.specs.Meaning.{plain};
 ghost use Rattle.store.specs.Rules.{copy_source, written_over};
 ghost use Rattle.ends.specs.Blocks.{submit_answer, submit_counts, submit_store, collect_answer, collect_store};
@@ -60,6 +61,7 @@ impl Host {
         buffer: &mut [u8],
     ) -> Result<usize, Refusal>
         ensures answer { result ≡ collect_answer (I.Store.meaning inn.old) channel (length buffer.old) }
+        ensures bound { IfOk result (λ n. (n ≤ longest_block) × (n ≤ length buffer.old)) }
         ensures buffer { buffer.new ≡ written_over (copy_source (I.Store.meaning inn.old) channel (length buffer.old)) buffer.old }
         ensures inn { I.Store.meaning inn.new ≡ collect_store (I.Store.meaning inn.old) channel (length buffer.old) }
     {

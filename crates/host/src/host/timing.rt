@@ -1,10 +1,10 @@
 // The timer.
-ghost use Rattle.std.specs.Prelude.{◌≡◌, length};
+ghost use Rattle.std.specs.Prelude.{◌≡◌, ◌≤◌, length, IfOk};
 ghost use Rattle.store.specs.Meaning.{Meaning};
 ghost use Rattle.ends.specs.Host.{timer_call};
 ghost use Rattle.host.specs.Model.{host_of};
 ghost use Rattle.host.specs.Left.{Left};
-ghost use Rattle.host.specs.Answers.{timer_answer, timed_word};
+ghost use Rattle.host.specs.Answers.{timer_answer, timed_length, timed_word};
 
 use super::opening::one_reset;
 use super::{Host, State};
@@ -19,6 +19,7 @@ impl Host {
     /// Refuses 16 where no frame is on its way, and 14.
     pub fn timer<O: Store>(&mut self, out: &mut O, wire: &mut [u8]) -> Result<Timed, Refusal>
         ensures answer { result ≡ timer_answer (host_of self.old.link) (length wire.old) }
+        ensures bound { IfOk result (λ t. timed_length t ≤ length wire.old) }
         ensures named { (inn : Meaning) → timed_word result ≡ (timer_call (length wire.old) (host_of self.old.link) (O.Store.meaning out.old) inn).word }
         ensures after { (inn : Meaning) → Left (timer_call (length wire.old) (host_of self.old.link) (O.Store.meaning out.old) inn) self.old self.new (O.Store.meaning out.new) inn wire.old wire.new }
     {

@@ -77,6 +77,7 @@ impl Sent {
     pub(crate) fn write(&self, wire: &mut [u8]) -> usize
         requires { longest_wire ≤ length wire.old }
         ensures value { result ≡ request_length (sent_request self.now) }
+        ensures bound { result ≤ length wire.old }
         ensures wire { wire.new ≡ over_wire (request_body (sent_request self.now)) wire.old }
     {
         let head = Head {
