@@ -1,0 +1,3 @@
+-- The lemmas on both ends together.
+mod Ways
+mod Reading

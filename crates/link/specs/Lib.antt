@@ -1,0 +1,3 @@
+-- The definitions that the contracts on both ends together cite.
+pub mod Line
+pub mod Way
