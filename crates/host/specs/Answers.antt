@@ -116,9 +116,12 @@ byte_word (Ok None) = silent
 byte_word (Ok (Some h)) = rule_word h
 byte_word (Err e) = silent
 
+abbrev pub timed_is : Timed → Word
+timed_is (timed.Repeated n) = silent
+timed_is (timed.Down f) = doubt_word f.doubt
+
 abbrev pub timed_word : Result Timed Refusal → Word
-timed_word (Ok (timed.Repeated n)) = silent
-timed_word (Ok (timed.Down f)) = doubt_word f.doubt
+timed_word (Ok t) = timed_is t
 timed_word (Err e) = silent
 
 -- submit again: the block's number, or the refusal with the note handed back
