@@ -1,6 +1,7 @@
 // A block that an end keeps while it is on its way, beside its store. The methods stand in `keeping`, since their clauses
 // name this type.
 ghost use Rattle.std.specs.Prelude.{◌≤◌};
+ghost use Rattle.frame.specs.Frame.{longest_block};
 ghost use Rattle.arrayvec.specs.ArrayVec.{array_vec_len};
 
 use arrayvec::ArrayVec;
@@ -13,4 +14,5 @@ pub mod keeping;
 pub struct KeptBlock {
     bytes: ArrayVec<u8, BLOCK>,
     ghost some: { 1 ≤ array_vec_len bytes },
+    ghost short: { array_vec_len bytes ≤ longest_block },
 }

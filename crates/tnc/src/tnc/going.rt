@@ -8,7 +8,7 @@ ghost use Rattle.tnc.specs.Model.{tnc_of};
 ghost use Rattle.tnc.specs.Gone.{gone_name, tnc_gone};
 
 use super::Link;
-use crate::held::{Given, Held};
+use crate::held::Given;
 use ends::name::{BlockName, Went};
 use poll::channel::Channel;
 use store::Store;
@@ -52,23 +52,15 @@ impl Link {
         ensures { MatchOption result (cargo_in (tnc_of self.now).held.reply ≡ empty) (λ c. ((b : Block) × (cargo_in (tnc_of self.now).held.reply ≡ holds b)) × ((tnc_of self.now).held.channel ≡ c.number)) }
     {
         match &self.held {
-            Some(
-                Held {
-                    given: Given::Block(channel, _),
-                    ..
-                },
-            ) => Some(*channel),
-            Some(
-                Held {
-                    given: Given::Success(_)
-                    | Given::NoPlace(_)
-                    | Given::NoChannel
-                    | Given::Unknown(_)
-                    | Given::List(_),
-                    ..
-                },
-            )
-            | None => None,
+            None => None,
+            Some(held) => match &held.given {
+                Given::Block(channel, _) => Some(*channel),
+                Given::Success(_)
+                | Given::NoPlace(_)
+                | Given::NoChannel
+                | Given::Unknown(_)
+                | Given::List(_) => None,
+            },
         }
     }
 }
