@@ -8,6 +8,7 @@ pub mod Host
 pub mod Tnc
 pub mod Line
 pub mod Ear
+pub mod Kept
 pub mod Heard
 pub mod Named
 pub mod Sent

@@ -4,5 +4,6 @@
 pub mod collect;
 pub mod counts;
 pub mod ear;
+pub mod kept;
 pub mod name;
 pub mod refusal;

@@ -2,9 +2,9 @@
 use Rattle.std.specs.Prelude.{ℕ, Bool}
 use Rattle.frame.specs.Frame.{general}
 use Rattle.frame.specs.Kinds.{Shown, shows}
-use Rattle.store.specs.Meaning.{Block, plain}
+use Rattle.store.specs.Meaning.{Block}
 use Rattle.ends.specs.Frames.{Load, Request, poll, information, load_code, load_payload}
-use Rattle.host.specs.declared.sent.KeptBlock.{KeptBlock}
+use Rattle.ends.specs.Kept.{block_of}
 use Rattle.host.specs.declared.sent.Asked.{Asked}
 use Rattle.host.specs.declared.sent.Asked.TheVariants as asked
 use Rattle.host.specs.declared.sent.Sent.{Sent}
@@ -14,9 +14,6 @@ poll_request c reset toggle = record { channel = c; reset = reset; toggle = togg
 
 abbrev pub block_request : ℕ → Bool → Bool → Block → Request
 block_request c reset toggle b = record { channel = c; reset = reset; toggle = toggle; load = information b }
-
-abbrev pub block_of : KeptBlock → Block
-block_of k = plain k.bytes.items
 
 -- whom a frame is for, and what it carries
 abbrev pub asked_channel : Asked → ℕ

@@ -9,7 +9,8 @@ ghost use Rattle.host.specs.Answers.{step_answer};
 
 use super::{Host, Link, State};
 use crate::answer::{StepRule, Stepped};
-use crate::sent::{Asked, KeptBlock, Sent};
+use crate::sent::{Asked, Sent};
+use ends::kept::KeptBlock;
 use ends::refusal::Refusal;
 use poll::channel::{Channel, LAST_CHANNEL};
 use store::Store;

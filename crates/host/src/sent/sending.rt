@@ -1,42 +1,22 @@
 // How the host's frames are made and written.
-ghost use Rattle.std.specs.Prelude.{◌≡◌, ◌≤◌, List, ◌∷◌, length};
+ghost use Rattle.std.specs.Prelude.{◌≡◌, ◌≤◌, length};
 ghost use Rattle.frame.specs.declared.form.Form.TheVariants.{Counted};
 ghost use Rattle.frame.specs.Frame.{Carries};
 ghost use Rattle.frame.specs.Head.{byte_of};
 ghost use Rattle.frame.specs.Kinds.{host_shows};
 ghost use Rattle.wire.specs.Wire.{longest_wire};
-ghost use Rattle.store.specs.Meaning.{Block};
 ghost use Rattle.ends.specs.Sent.{over_wire, request_length};
 ghost use Rattle.ends.specs.Frames.{request_body};
 ghost use Rattle.ends.specs.Host.{reset_request};
-ghost use Rattle.host.specs.Sent.{block_of, asked_channel, asked_load, load_shows, sent_request};
+ghost use Rattle.host.specs.Sent.{asked_channel, asked_load, load_shows, sent_request};
 
-use super::{Asked, KeptBlock, Sent};
-use arrayvec::ArrayVec;
-use frame::form::BLOCK;
+use super::{Asked, Sent};
 use frame::frames::HostFrame;
 use frame::head::{Address, Head};
-use poll::channel::Channel;
-use store::Store;
 use wire::writer::write;
 
 // The poll command.
 const POLL: HostFrame<'static> = HostFrame::Command(b"G");
-
-impl KeptBlock {
-    /// The first block of a channel that has one.
-    pub(crate) fn first<O: Store>(channel: Channel, out: &O) -> KeptBlock
-        requires { 1 ≤ length ((O.Store.meaning out.now).waiting channel.number) }
-        ensures { (b : Block) (bs : List Block) → (O.Store.meaning out.now).waiting channel.number ≡ b ∷ bs → block_of result ≡ b }
-    {
-        let mut bytes = ArrayVec::from([0; BLOCK]);
-        let Ok(len) = out.copy_first(channel.number(), bytes.as_mut_slice()) else {
-            unreachable!()
-        };
-        bytes.truncate(len);
-        KeptBlock { bytes }
-    }
-}
 
 impl Asked {
     // Whom the frame is for.
@@ -56,7 +36,7 @@ impl Asked {
     {
         match self {
             Asked::GeneralPoll | Asked::ChannelPoll(_) => POLL,
-            Asked::Block(_, block) => HostFrame::Information(block.bytes.as_slice()),
+            Asked::Block(_, block) => HostFrame::Information(block.bytes()),
         }
     }
 }

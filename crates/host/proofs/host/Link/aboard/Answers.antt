@@ -1,6 +1,6 @@
 -- The block on its way is the one kept.
 use Rattle.std.proofs.Common.{rules}
-use Rattle.host.specs.Sent.{block_of}
+use Rattle.ends.specs.Kept.{block_of}
 use Rattle.host.proofs.host.Link.aboard.Goals as goal
 
 pub returns-in-Block : goal.returns-in-Block

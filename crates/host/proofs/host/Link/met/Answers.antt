@@ -1,5 +1,5 @@
 -- A frame in sequence meets the rule of the frame on its way.
-use Rattle.host.specs.Sent.{block_of}
+use Rattle.ends.specs.Kept.{block_of}
 use Rattle.host.proofs.InSequence.{in_sequence}
 use Rattle.host.proofs.host.Link.met.Goals as goal
 

@@ -1,7 +1,8 @@
 -- The lowest channel's first block is what the rules pick where no block was refused and no channel is left to poll.
 use Rattle.std.proofs.Common.{Bool, false, not, sym, ap, ◌∙◌}
 use Rattle.ends.specs.Host.{request_for}
-use Rattle.host.specs.Sent.{block_of, block_request}
+use Rattle.ends.specs.Kept.{block_of}
+use Rattle.host.specs.Sent.{block_request}
 use Rattle.host.specs.Model.{host_of}
 use Rattle.host.specs.Answers.{step_rule_of}
 use Rattle.host.proofs.Picks.{sends_block, pick_lowest}

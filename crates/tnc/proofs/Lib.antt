@@ -1,0 +1,6 @@
+-- The lemmas on the TNC end.
+mod Sending
+mod Waiting
+mod Rules
+mod Naming
+mod Hearing

@@ -1,0 +1,49 @@
+-- The TNC's answers may be sent.
+use Rattle.std.proofs.Common.{◌≡◌, ℕ, zero, suc, ◌<◌, Bool, true, false, ◌&&◌, not, eqb, List, [], ◌∷◌, length, sym, refl, ap, ◌∙◌, subst, inl, inr, arith}
+use Rattle.std.proofs.lemmas.Bool.{not-true, eqb-false, and_parts}
+use Rattle.frame.specs.declared.form.Direction.TheVariants.{FromTnc}
+use Rattle.frame.specs.declared.frames.TncFrame.{TncFrame}
+use Rattle.frame.specs.declared.head.Address.{Address}
+use Rattle.frame.specs.declared.head.Head.{Head}
+use Rattle.frame.specs.Frame.{Frame, Body, NoZero}
+use Rattle.frame.specs.Head.{byte_of, framed}
+use Rattle.frame.specs.Kinds.{tnc_shows}
+use Rattle.wire.proofs.Short.{address_byte}
+use Rattle.ends.specs.Frames.{Answer, reply_code, reply_payload, answer_frame, answer_body}
+use Rattle.ends.specs.Tnc.{no_place, no_channel, unknown}
+use Rattle.ends.proofs.Fit.{FitAnswer, answer_body_is}
+use Rattle.tnc.specs.declared.held.Given.{Given}
+use Rattle.tnc.specs.declared.held.Given.TheVariants as given
+use Rattle.tnc.specs.declared.held.Held.{Held}
+use Rattle.tnc.specs.Held.{given_channel, given_reply, given_answer, held_answer, reply_shows}
+
+-- a text has no 00, as a test
+abbrev no_zero : List ℕ → Bool
+no_zero [] = true
+no_zero (x ∷ xs) = not (eqb x 0) && no_zero xs
+
+no_zero_is : (xs : List ℕ) → no_zero xs ≡ true → NoZero xs
+no_zero_is [] e k h q = omega arith
+no_zero_is (x ∷ xs) e zero h q = eqb-false x 0 (not-true (eqb x 0) (and_parts (not (eqb x 0)) (no_zero xs) e).0) q
+no_zero_is (x ∷ xs) e (suc k) h q = no_zero_is xs (and_parts (not (eqb x 0)) (no_zero xs) e).1 k (omega arith) q
+
+given_fits : (g : Given) (reset toggle : Bool) → FitAnswer (given_answer g reset toggle)
+given_fits (given.Success c) reset toggle = record { place = inl c.within; shape = tt }
+given_fits (given.NoPlace c) reset toggle = record { place = inl c.within; shape = (omega arith, no_zero_is no_place refl) }
+given_fits given.NoChannel reset toggle = record { place = inr refl; shape = (omega arith, no_zero_is no_channel refl) }
+given_fits (given.Unknown a) reset toggle = record { place = address_byte a; shape = (omega arith, no_zero_is unknown refl) }
+given_fits (given.List l) reset toggle = record { place = inr refl; shape = l.good }
+given_fits (given.Block c k) reset toggle = record { place = inl c.within; shape = (c.within, (k.some, k.short)) }
+
+-- the frame that has a held answer's address and shows its reply has the answer's body
+module _ (h : Held) (a : Address) (f : TncFrame) where
+  abbrev pub head : Head
+  head = record { address = a; reset = h.reset; toggle = h.toggle }
+
+  abbrev reply_frame : ℕ → Frame
+  reply_frame c = record { channel = c; code = reply_code (given_reply h.given); reset = h.reset; toggle = h.toggle; payload = reply_payload (given_reply h.given) }
+
+  pub answer_fits : byte_of a ≡ given_channel h.given → tnc_shows f ≡ reply_shows (given_reply h.given) → Body FromTnc (answer_body (held_answer h)) (framed head (tnc_shows f))
+  answer_fits at shows =
+      let same : framed head (tnc_shows f) ≡ answer_frame (held_answer h) = ap (framed head) shows ∙ ap reply_frame at in
+      subst (λ (x : Frame). Body FromTnc (answer_body (held_answer h)) x) (sym same) (answer_body_is (held_answer h) (given_fits h.given h.reset h.toggle))

@@ -1,0 +1,68 @@
+// A frame of the host, read from the body that passed.
+ghost use Rattle.std.specs.Prelude.{◌≡◌};
+ghost use Rattle.frame.specs.declared.form.Direction.{Direction};
+ghost use Rattle.frame.specs.Kinds.{host_shows};
+ghost use Rattle.ends.specs.Frames.{load_in, request_read};
+ghost use Rattle.ends.specs.Line.{FrameIn};
+ghost use Rattle.ends.specs.Tnc.{is_general_poll};
+ghost use Rattle.tnc.specs.Request.{load_shown, request_shown};
+
+use frame::frames::{HostFrame, read};
+use frame::head::{Address, Head};
+
+/// What a frame asks; its bytes are borrowed from the body.
+#[derive(Clone, Copy)]
+pub enum Load<'a> {
+    Poll,
+    Information(&'a [u8]),
+    /// A command that is no poll.
+    Command(&'a [u8]),
+}
+
+/// What a frame asks, with its head.
+#[derive(Clone, Copy)]
+pub struct Request<'a> {
+    pub head: Head,
+    pub load: Load<'a>,
+}
+
+impl<'a> Load<'a> {
+    fn of(frame: HostFrame<'a>) -> Load<'a>
+        ensures { load_shown result ≡ load_in (host_shows frame.entry).code (host_shows frame.entry).payload }
+    {
+        match frame {
+            HostFrame::Information(block) => Load::Information(block),
+            HostFrame::Command(b"G") => Load::Poll,
+            HostFrame::Command(text) => Load::Command(text),
+        }
+    }
+}
+
+impl<'a> Request<'a> {
+    /// Reads the body of a frame.
+    pub(crate) fn of(body: &'a [u8]) -> Request<'a>
+        requires { ∥ FrameIn Direction.FromHost body.now ∥₁ }
+        ensures { request_shown result ≡ request_read body.now }
+    {
+        let Some(head) = Head::of(body) else {
+            unreachable!()
+        };
+        let Some(frame) = read(body) else {
+            unreachable!()
+        };
+        Request {
+            head,
+            load: Load::of(frame),
+        }
+    }
+
+    /// Whether it is the poll of no channel.
+    pub(crate) fn is_general_poll(self) -> bool
+        ensures { result ≡ is_general_poll (request_shown self.entry) }
+    {
+        matches!(
+            (self.head.address, self.load),
+            (Address::General, Load::Poll)
+        )
+    }
+}
