@@ -1,3 +1,4 @@
 -- The lemmas on both ends together.
 mod Ways
 mod Reading
+mod Senders

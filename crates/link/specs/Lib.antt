@@ -1,3 +1,5 @@
 -- The definitions that the contracts on both ends together cite.
 pub mod Line
 pub mod Way
+pub mod Sent
+pub mod Log

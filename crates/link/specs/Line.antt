@@ -14,8 +14,8 @@ abbrev pub next_of : Option ℕ → ℕ
 next_of None = 0
 next_of (Some i) = suc i
 
--- the line may bring the body: it is the one written at this place, and the place does not go back
-pub record Passes (l : Line) (place : ℕ) (body : List ℕ) : Type 0 where
-  pub ahead : place_of l.passed ≤ place
-  pub there : place < length (bodies l)
-  pub same : body ≡ slice_index_or (bodies l) place body
+-- the line may bring a body: it is the one written at this place, and the place does not go back
+pub record Passes (written : List (List ℕ)) (passed : Option ℕ) (place : ℕ) (body : List ℕ) : Type 0 where
+  pub ahead : place_of passed ≤ place
+  pub there : place < length written
+  pub same : body ≡ slice_index_or written place body

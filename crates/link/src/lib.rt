@@ -1,5 +1,8 @@
-// Both ends of the link together: a host and a TNC, the two lines between them, and what has happened on each way.
+// Both ends of the link together: a host and a TNC, what each has sent, and the delivery law of their calls.
 #![tactic(auto)]
 
 pub mod line;
+pub mod log;
+
+pub mod sender;
 pub mod way;

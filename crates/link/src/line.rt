@@ -13,41 +13,37 @@ use std::alloc::{AllocError, Global};
 /// The bodies of the frames that one end has written, in order, and the place of the last that passed the other's reader.
 #[derive(Drop)]
 pub struct Line {
-    direction: Direction,
     written: Vec<ArrayVec<u8, BODY>>,
     passed: Option<usize>,
 }
 
 impl Line {
     /// A line on which nothing was written.
-    pub(crate) fn new(heap: Global, direction: Direction) -> Line
-        ensures direction { result.direction ≡ direction }
+    pub(crate) fn new(heap: Global) -> Line
         ensures written { bodies result ≡ [] }
         ensures passed { result.passed ≡ None }
     {
         Line {
-            direction,
             written: Vec::new(heap),
             passed: None,
         }
     }
 
     /// Keeps the body of a frame, by its wire form as it was written.
-    pub(crate) fn record(&mut self, wire: &[u8]) -> Result<(), AllocError>
-        ensures written { OnOk result ((body : List ℕ) (f : Frame) → Body self.old.direction body f → wire.now ≡ wire_of body → bodies self.new ≡ bodies self.old ++ body ∷ []) }
+    pub(crate) fn record(&mut self, direction: Direction, wire: &[u8]) -> Result<(), AllocError>
+        ensures written { OnOk result ((body : List ℕ) (f : Frame) → Body direction body f → wire.now ≡ wire_of body → bodies self.new ≡ bodies self.old ++ body ∷ []) }
         ensures passed { self.new.passed ≡ self.old.passed }
-        ensures direction { self.new.direction ≡ self.old.direction }
     {
-        self.written.push(body_of(self.direction, wire))?;
+        self.written.push(body_of(direction, wire))?;
         Ok(())
     }
 
     /// A frame passes the other end's reader. Whether the line may bring it: it is the one written at this place, and no place
     /// before that of the last one.
     pub(crate) fn pass(&mut self, place: usize, body: &[u8]) -> bool
-        ensures answer { Decides result (Passes self.old place body.now) }
+        ensures answer { Decides result (Passes (bodies self.old) self.old.passed place body.now) }
         ensures passed { self.new.passed ≡ Some place }
-        ensures same { (bodies self.new ≡ bodies self.old) × (self.new.direction ≡ self.old.direction) }
+        ensures written { bodies self.new ≡ bodies self.old }
     {
         let ahead = self.passed.unwrap_or(0) <= place;
         self.passed = Some(place);
