@@ -1,7 +1,7 @@
 -- The proof of the delivery law. Frames as they are written and read: Fitting. What is lost, doubled or delivered:
 -- Stores, Line, Sync, Books, ToTnc, ToHost, Keeps, Delivers, Runs. When the link falls: Count, Window, Tally, Track, Both, Timer, Falls.
 mod Steps
-mod Fitting
+pub mod Fitting
 mod Stores
 mod Line
 mod Sync
@@ -18,4 +18,4 @@ mod Track
 mod Both
 mod Timer
 mod Falls
-mod Law
+pub mod Law

@@ -2,3 +2,7 @@
 mod Ways
 mod Reading
 mod Senders
+mod Wrote
+mod Made
+mod Hosts
+mod Handed

@@ -3,3 +3,5 @@ pub mod Line
 pub mod Way
 pub mod Sent
 pub mod Log
+pub mod Came
+pub mod Pair

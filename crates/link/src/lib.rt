@@ -3,6 +3,7 @@
 
 pub mod line;
 pub mod log;
+pub mod pair;
 
 pub mod sender;
 pub mod way;

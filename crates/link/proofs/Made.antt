@@ -1,0 +1,121 @@
+-- A call that changes a pair as the rules say goes on with the run that reached it.
+use Rattle.std.proofs.Common.{◌≡◌, ◌↔◌, ℕ, List, ◌++◌, map, None, sym, refl, ap, ◌∙◌, subst}
+use Rattle.std.specs.List.{AllByRecursion}
+use Rattle.frame.specs.declared.form.Direction.TheVariants.{FromHost, FromTnc}
+use Rattle.frame.specs.Frame.{Frame, Body}
+use Rattle.reader.specs.Read as reader
+use Rattle.store.specs.Meaning.{Meaning}
+use Rattle.ends.specs.Frames.{Request, Answer, request_body, answer_body, request_frame, answer_frame}
+use Rattle.ends.specs.Blocks.{Word}
+use Rattle.ends.specs.Ear.{heard_by}
+use Rattle.ends.specs.Host.{Host, HostStep}
+use Rattle.ends.specs.Tnc.{Tnc, TncStep}
+use Rattle.ends.proofs.Fit.{FitRequest, FitAnswer, request_body_is, answer_body_is}
+use Rattle.host.specs.Model.{host_of}
+use Rattle.tnc.specs.Model.{tnc_of}
+use Rattle.law.specs.Runs.{World, Limits, Call, Run, after, act, Allowed, after_host, with_written}
+use Rattle.law.specs.Law.{TakesDown, UsedUp}
+use Rattle.law.proofs.Law.{delivery_law}
+use Rattle.law.proofs.Fitting.{fits}
+use Rattle.link.specs.declared.pair.Pair.{Pair}
+use Rattle.link.specs.Line.{place_of, next_of}
+use Rattle.link.specs.Sent.{Sent, sent_by, Sends, with_sent}
+use Rattle.link.specs.Log.{Keeps}
+use Rattle.link.specs.Pair.{Stores, stores, world_of, Stands, world, Reached, Made, Makes}
+use Rattle.link.proofs.Wrote.{wire_written, bodies_written, bodies_after, sends}
+
+-- a world by its parts
+abbrev pub world_from : Host → reader.Meaning → Tnc → reader.Meaning → Sent → Sent → Stores → List Request → List Answer → ℕ → World
+world_from h he t te f g m up dn tries = record {
+  host = h;
+  host_reader = he;
+  tnc = t;
+  tnc_reader = te;
+  host_out = m.host_out;
+  host_in = m.host_in;
+  tnc_out = m.tnc_out;
+  tnc_in = m.tnc_in;
+  up = up;
+  dn = dn;
+  up_at = place_of f.passed;
+  dn_at = place_of g.passed;
+  up_next = next_of f.passed;
+  dn_next = next_of g.passed;
+  to_tnc = f.way;
+  to_host = g.way;
+  tries = tries;
+}
+
+-- equal parts make equal worlds
+pub same_world : (p : Pair) (m n : Stores) (up : List Request) (dn : List Answer) (tries : ℕ) (h : Host) (he : reader.Meaning) (t : Tnc) (te : reader.Meaning) (f g : Sent)
+    → host_of p.host.link ≡ h → heard_by p.host.ear ≡ he → tnc_of p.tnc.link ≡ t → heard_by p.tnc.ear ≡ te → sent_by p.log.from_host ≡ f → sent_by p.log.from_tnc ≡ g → m ≡ n
+    → world_of p m up dn tries ≡ world_from h he t te f g n up dn tries
+same_world p m n up dn tries h he t te f g a b c d e i j =
+    ap (λ x. world_from x (heard_by p.host.ear) (tnc_of p.tnc.link) (heard_by p.tnc.ear) (sent_by p.log.from_host) (sent_by p.log.from_tnc) m up dn tries) a
+    ∙ ap (λ x. world_from h x (tnc_of p.tnc.link) (heard_by p.tnc.ear) (sent_by p.log.from_host) (sent_by p.log.from_tnc) m up dn tries) b
+    ∙ ap (λ x. world_from h he x (heard_by p.tnc.ear) (sent_by p.log.from_host) (sent_by p.log.from_tnc) m up dn tries) c
+    ∙ ap (λ x. world_from h he t x (sent_by p.log.from_host) (sent_by p.log.from_tnc) m up dn tries) d
+    ∙ ap (λ x. world_from h he t te x (sent_by p.log.from_tnc) m up dn tries) e
+    ∙ ap (λ x. world_from h he t te f x m up dn tries) i
+    ∙ ap (λ x. world_from h he t te f g x up dn tries) j
+
+-- the run goes on, and the law holds of it
+pub made : (k : Call) (p q : Pair) (m n : Stores) (s : Stands p m) → Allowed k (world s) → (up : List Request) (dn : List Answer) (tries : ℕ)
+    → world_of q n up dn tries ≡ act k (world s) → (sent_by q.log.from_host).written ≡ map request_body up → (sent_by q.log.from_tnc).written ≡ map answer_body dn
+    → Made k p m q n
+made k p q m n s ok up dn tries acts ups dns =
+    let run : Run s.setting s.limits (world_of q n up dn tries) = subst (Run s.setting s.limits) (sym acts) (after s.run k ok) in
+    record {
+      before = s;
+      allowed = ok;
+      after = record { setting = s.setting; limits = s.limits; up = up; dn = dn; tries = tries; up_is = ups; dn_is = dns; run = run };
+      acts = acts;
+      delivers = delivery_law.delivers s.setting s.limits (world_of q n up dn tries) run;
+      falls = λ rep nr. subst (λ v. TakesDown (world s) v ↔ UsedUp (world s) k) (sym acts) (delivery_law.falls s.setting s.limits (world s) s.run rep k ok nr);
+    }
+
+request_fits : (q : Request) → FitRequest q → (x : Frame) × Body FromHost (request_body q) x
+request_fits q f = (request_frame q, request_body_is q f)
+
+answer_fits : (a : Answer) → FitAnswer a → (x : Frame) × Body FromTnc (answer_body a) x
+answer_fits a f = (answer_frame a, answer_body_is a f)
+
+-- a call of the host that hears nothing
+module _ (k : Call) (p q : Pair) (m n : Stores) (S : HostStep) (T : ℕ → ℕ) (bytes : List ℕ) (word : Word) where
+  pub host_makes :
+      ((s : Stands p m) → act k (world s) ≡ after_host S (world s).dn_at (world s).dn_next (T s.tries) (world s))
+      → ((s : Stands p m) → Allowed k (world s))
+      → n ≡ stores S.out S.inn m.tnc_out m.tnc_in
+      → host_of q.host.link ≡ S.host → q.host.ear ≡ p.host.ear → q.tnc ≡ p.tnc
+      → q.log.from_tnc ≡ p.log.from_tnc
+      → Keeps p.log q.log ((written : List (List ℕ)) → Sends FromHost bytes written → sent_by q.log.from_host ≡ with_sent (sent_by p.log.from_host) written word)
+      → bytes ≡ wire_written request_body S.wrote → word ≡ S.word
+      → Makes k p m q n
+  host_makes acts allowed into host ear tnc other keeps wrote named reached whole =
+      let kept = keeps whole in
+      let s = reached kept.0 in
+      let ok = allowed s in
+      let all : AllByRecursion FitRequest (with_written s.up S.wrote) = subst (λ (w : World). AllByRecursion FitRequest w.up) (acts s) (fits (after s.run k ok)).up in
+      let sent = kept.1 (bodies_written request_body S.wrote) (sends request_body FromHost FitRequest request_fits s.up S.wrote all bytes wrote) ∙ ap (with_sent (sent_by p.log.from_host) (bodies_written request_body S.wrote)) named in
+      made k p q m n s ok (with_written s.up S.wrote) s.dn (T s.tries)
+      (same_world q n (stores S.out S.inn m.tnc_out m.tnc_in) _ _ _ S.host (heard_by p.host.ear) (tnc_of p.tnc.link) (heard_by p.tnc.ear) (with_sent (sent_by p.log.from_host) (bodies_written request_body S.wrote) S.word) (sent_by p.log.from_tnc)
+      host (ap heard_by ear) (ap (λ t. tnc_of t.link) tnc) (ap (λ t. heard_by t.ear) tnc) sent (ap sent_by other) into ∙ sym (acts s))
+      (ap (λ (x : Sent). x.written) sent ∙ ap (λ l. l ++ bodies_written request_body S.wrote) s.up_is ∙ sym (bodies_after request_body s.up S.wrote))
+      (ap (λ l. (sent_by l).written) other ∙ s.dn_is)
+
+-- a call that neither writes nor hears
+module _ (k : Call) (p q : Pair) (m n : Stores) (h : Host) (t : Tnc) (f g : Sent) where
+  pub quiet_makes :
+      ((s : Stands p m) → act k (world s) ≡ world_from h (heard_by p.host.ear) t (heard_by p.tnc.ear) f g n s.up s.dn s.tries)
+      → ((s : Stands p m) → Allowed k (world s))
+      → host_of q.host.link ≡ h → q.host.ear ≡ p.host.ear → tnc_of q.tnc.link ≡ t → q.tnc.ear ≡ p.tnc.ear
+      → Keeps p.log q.log ((sent_by q.log.from_host ≡ f) × (sent_by q.log.from_tnc ≡ g))
+      → f.written ≡ (sent_by p.log.from_host).written → g.written ≡ (sent_by p.log.from_tnc).written
+      → Makes k p m q n
+  quiet_makes acts allowed host host_ear tnc tnc_ear keeps ups dns reached whole =
+      let kept = keeps whole in
+      let s = reached kept.0 in
+      made k p q m n s (allowed s) s.up s.dn s.tries
+      (same_world q n n s.up s.dn s.tries h (heard_by p.host.ear) t (heard_by p.tnc.ear) f g host (ap heard_by host_ear) tnc (ap heard_by tnc_ear) kept.1.0 kept.1.1 refl ∙ sym (acts s))
+      (ap (λ (x : Sent). x.written) kept.1.0 ∙ ups ∙ s.up_is)
+      (ap (λ (x : Sent). x.written) kept.1.1 ∙ dns ∙ s.dn_is)

@@ -1,0 +1,1 @@
+// The TNC's calls on a pair.
