@@ -3,7 +3,6 @@ use Rattle.std.proofs.Common.{◌≡◌, ℕ, Bool, true, false, cond, List, Som
 use Rattle.wire.specs.Wire.{longest_wire}
 use Rattle.reader.specs.declared.fault.Fault.{Fault}
 use Rattle.reader.specs.declared.state.Heard.{Heard}
-use Rattle.reader.specs.declared.state.Heard.TheVariants.{More, Frame}
 use Rattle.reader.specs.Read.{Next, passed}
 use Rattle.reader.specs.Read as reader
 use Rattle.store.specs.Meaning.{Meaning}

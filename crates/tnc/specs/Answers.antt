@@ -8,7 +8,7 @@ use Rattle.ends.specs.Frames.{Load, poll, information, command, Request, Reply, 
 use Rattle.ends.specs.Blocks.{Word, silent}
 use Rattle.ends.specs.Named.{went_by, word_of}
 use Rattle.ends.specs.Sent.{answer_length}
-use Rattle.ends.specs.Tnc.{Tnc, TncRule, flagged, early, resets, again, accepts, TncStep, no_place, has_place, out_after, tnc_rule, by_tnc, tnc_step}
+use Rattle.ends.specs.Tnc.{Tnc, TncRule, flagged, early, resets, again, accepts, TncStep, no_place, has_place, out_after, tnc_rule, tnc_step}
 use Rattle.tnc.specs.declared.answer.Rule.{Rule}
 use Rattle.tnc.specs.declared.answer.Rule.TheVariants.{Reset, HeldAgain, BlockTaken, NoPlace, NoChannel, BlockGiven, NothingWaiting, ListGiven, Unknown}
 use Rattle.tnc.specs.declared.answer.Heard.{Heard}

@@ -1,6 +1,6 @@
 -- A flagged general poll is a reset.
-use Rattle.std.proofs.Common.{◌≡◌, Ok, sym, ap, ◌∙◌, subst}
-use Rattle.ends.specs.Tnc.{TncRule, resets, tnc_rule, by_tnc}
+use Rattle.std.proofs.Common.{Ok, sym, ap, ◌∙◌, subst}
+use Rattle.ends.specs.Tnc.{TncRule, by_tnc}
 use Rattle.tnc.specs.Model.{tnc_of}
 use Rattle.tnc.specs.Left.{Left}
 use Rattle.tnc.specs.Request.{request_shown}
