@@ -1,6 +1,7 @@
 -- The lowest channel with a block, and its first block, which is sent.
 use Rattle.std.proofs.Common.{◌≡◌, ℕ, zero, suc, ◌+◌, ◌<◌, ◌≤◌, Bool, true, false, cond, nat_lt, List, [], ◌∷◌, length, Some, None, Option, sym, refl, ap, ◌∙◌, subst, add-one, arith, MatchOption}
 use Rattle.std.specs.List.{find, range_with_len}
+use Rattle.std.specs.Option.{option_map}
 use native.Mathlib.Decide.{ℕ_discrete}
 use Rattle.std.proofs.lemmas.List.{nil_from_length}
 use Rattle.std.proofs.lemmas.Bool.{cond-false, le-ltb, ltb-true, ltb-false}
@@ -8,7 +9,9 @@ use Rattle.poll.specs.Channel.{last_channel, channels}
 use Rattle.store.specs.Meaning.{Block, Meaning}
 use Rattle.store.specs.Rules.{count_on}
 use Rattle.poll.specs.declared.channel.Channel.{Channel}
+use Rattle.ends.specs.declared.kept.KeptBlock.{KeptBlock}
 use Rattle.ends.specs.Frames.{Request}
+use Rattle.ends.specs.Kept.{block_of, first_of}
 use Rattle.ends.specs.Host.{Pick, general_poll, send_block_of, or_else, lowest_below, pick, request_for}
 use Rattle.host.specs.declared.answer.StepRule.TheVariants as step
 use Rattle.host.specs.Sent.{block_request}
@@ -74,6 +77,12 @@ module _ (m : Meaning) where
       let here : m.waiting c.number ≡ m.waiting n = ap m.waiting same in
       let k = ap length here in
       (omega arith, λ b bs f. found m.waiting n s.1.0 s.0 b bs (sym here ∙ f) ∙ ap (λ (j : ℕ). send_block_of j b) (sym same))
+
+-- the block that is kept of it is its first
+pub first_kept : (r : Option KeptBlock) (k : KeptBlock) (blocks : List Block) (b : Block) (bs : List Block) → option_map block_of r ≡ first_of blocks → r ≡ Some k → blocks ≡ b ∷ bs → block_of k ≡ b
+first_kept r k blocks b bs first some here =
+    let e : Some (block_of k) ≡ Some b = ap (option_map block_of) (sym some) ∙ first ∙ ap first_of here in
+    cc
 
 -- its block is what is sent
 pub sends_block :

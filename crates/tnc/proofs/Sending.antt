@@ -1,5 +1,5 @@
 -- The TNC's answers may be sent.
-use Rattle.std.proofs.Common.{◌≡◌, ℕ, zero, suc, ◌<◌, Bool, true, false, ◌&&◌, not, eqb, List, [], ◌∷◌, length, sym, refl, ap, ◌∙◌, subst, inl, inr, arith}
+use Rattle.std.proofs.Common.{◌≡◌, ℕ, zero, suc, Bool, true, ◌&&◌, not, eqb, List, [], ◌∷◌, sym, refl, ap, ◌∙◌, subst, inl, inr, arith}
 use Rattle.std.proofs.lemmas.Bool.{not-true, eqb-false, and_parts}
 use Rattle.frame.specs.declared.form.Direction.TheVariants.{FromTnc}
 use Rattle.frame.specs.declared.frames.TncFrame.{TncFrame}
@@ -9,7 +9,7 @@ use Rattle.frame.specs.Frame.{Frame, Body, NoZero}
 use Rattle.frame.specs.Head.{byte_of, framed}
 use Rattle.frame.specs.Kinds.{tnc_shows}
 use Rattle.wire.proofs.Short.{address_byte}
-use Rattle.ends.specs.Frames.{Answer, reply_code, reply_payload, answer_frame, answer_body}
+use Rattle.ends.specs.Frames.{reply_code, reply_payload, answer_frame, answer_body}
 use Rattle.ends.specs.Tnc.{no_place, no_channel, unknown}
 use Rattle.ends.proofs.Fit.{FitAnswer, answer_body_is}
 use Rattle.tnc.specs.declared.held.Given.{Given}

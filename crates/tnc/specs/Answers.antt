@@ -8,7 +8,7 @@ use Rattle.ends.specs.Frames.{Load, poll, information, command, Request, Reply, 
 use Rattle.ends.specs.Blocks.{Word, silent}
 use Rattle.ends.specs.Named.{went_by, word_of}
 use Rattle.ends.specs.Sent.{answer_length}
-use Rattle.ends.specs.Tnc.{Tnc, TncRule, flagged, early, resets, again, accepts, TncStep, no_place, has_place, out_after, tnc_rule, by_tnc, tnc_step}
+use Rattle.ends.specs.Tnc.{Tnc, TncRule, flagged, early, resets, again, accepts, TncStep, no_place, has_place, out_after, tnc_rule, tnc_step}
 use Rattle.tnc.specs.declared.answer.Rule.{Rule}
 use Rattle.tnc.specs.declared.answer.Rule.TheVariants.{Reset, HeldAgain, BlockTaken, NoPlace, NoChannel, BlockGiven, NothingWaiting, ListGiven, Unknown}
 use Rattle.tnc.specs.declared.answer.Heard.{Heard}
@@ -30,16 +30,16 @@ accept_rule poll c place waiting = cond (c == general) ListGiven (offer_rule wai
 accept_rule (information b) c place waiting = cond (c == general) NoChannel (take_rule place)
 accept_rule (command p) c place waiting = Unknown
 
--- a frame's refusal or rule
-abbrev pub rule_met : TncRule → Rule → Result Rule Refusal
-rule_met flagged rule = Err FlaggedFrame
-rule_met early rule = Err BeforeReset
-rule_met resets rule = Ok Reset
-rule_met again rule = Ok HeldAgain
-rule_met accepts rule = Ok rule
-
 abbrev pub accept_rule_of : Request → Tnc → Meaning → Meaning → Rule
 accept_rule_of q t out inn = accept_rule q.load q.channel (has_place inn q.channel (cargo_of q.load)) ((out_after accepts t out).waiting q.channel)
+
+-- every rule and refusal of a frame
+abbrev pub rule_met : TncRule → Request → Tnc → Meaning → Meaning → Result Rule Refusal
+rule_met flagged q t out inn = Err FlaggedFrame
+rule_met early q t out inn = Err BeforeReset
+rule_met resets q t out inn = Ok Reset
+rule_met again q t out inn = Ok HeldAgain
+rule_met accepts q t out inn = Ok (accept_rule_of q t out inn)
 
 -- the rule with what the step says: the block named, and the length of what was written
 abbrev pub written_length : Written Answer → ℕ
@@ -55,7 +55,7 @@ with_step (Err e) s = Err e
 
 -- what a frame is answered
 abbrev pub frame_answer : Tnc → Meaning → Meaning → Request → Result Heard Refusal
-frame_answer t out inn q = with_step (rule_met (tnc_rule t q) (accept_rule_of q t out inn)) (tnc_step t out inn q)
+frame_answer t out inn q = with_step (rule_met (tnc_rule t q) q t out inn) (tnc_step t out inn q)
 
 -- the word that an answer says
 abbrev pub byte_word : Result (Option Heard) Refusal → Word

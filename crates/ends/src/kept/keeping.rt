@@ -1,9 +1,9 @@
 // How a block is kept, and what is kept of it.
-ghost use Rattle.std.specs.Prelude.{◌≡◌, ◌≤◌, List, ◌∷◌, length};
+ghost use Rattle.std.specs.Prelude.{◌≡◌};
+ghost use Rattle.std.specs.Option.{option_map};
 ghost use Rattle.frame.specs.declared.form.Form.TheVariants.{Counted};
 ghost use Rattle.frame.specs.Frame.{Carries};
-ghost use Rattle.store.specs.Meaning.{Block};
-ghost use Rattle.ends.specs.Kept.{block_of};
+ghost use Rattle.ends.specs.Kept.{block_of, first_of};
 
 use super::KeptBlock;
 use arrayvec::ArrayVec;
@@ -12,17 +12,14 @@ use poll::channel::Channel;
 use store::Store;
 
 impl KeptBlock {
-    /// The first block of a channel that has one.
-    pub fn first<O: Store>(channel: Channel, out: &O) -> KeptBlock
-        requires { 1 ≤ length ((O.Store.meaning out.now).waiting channel.number) }
-        ensures { (b : Block) (bs : List Block) → (O.Store.meaning out.now).waiting channel.number ≡ b ∷ bs → block_of result ≡ b }
+    /// The first block of a channel, which stays in its store; none where none waits.
+    pub fn first<O: Store>(channel: Channel, out: &O) -> Option<KeptBlock>
+        ensures { option_map block_of result ≡ first_of ((O.Store.meaning out.now).waiting channel.number) }
     {
         let mut bytes = ArrayVec::from([0; BLOCK]);
-        let Ok(len) = out.copy_first(channel.number(), bytes.as_mut_slice()) else {
-            unreachable!()
-        };
+        let len = out.copy_first(channel.number(), bytes.as_mut_slice()).ok()?;
         bytes.truncate(len);
-        KeptBlock { bytes }
+        Some(KeptBlock { bytes })
     }
 
     /// The bytes of the block, 1 to 256, which a frame carries.

@@ -78,7 +78,7 @@ impl Link {
         match lowest(out) {
             Some(channel) => Picked {
                 rule: StepRule::Block,
-                asked: Asked::Block(channel, KeptBlock::first(channel, out)),
+                asked: Asked::Block(channel, KeptBlock::first(channel, out).unwrap()),
             },
             None => Picked {
                 rule: StepRule::GeneralPoll,

@@ -51,15 +51,15 @@ impl Request<'_> {
 fn first<O: Store>(channel: Channel, out: &O) -> Answered
     ensures { AnswersOn channel.number (offer_rule ((O.Store.meaning out.now).waiting channel.number)) (offer ((O.Store.meaning out.now).waiting channel.number)) result }
 {
-    if out.count(channel.number()) == 0 {
-        return Answered {
+    match KeptBlock::first(channel, out) {
+        Some(block) => Answered {
+            rule: Rule::BlockGiven,
+            given: Given::Block(channel, block),
+        },
+        None => Answered {
             rule: Rule::NothingWaiting,
             given: Given::Success(channel),
-        };
-    }
-    Answered {
-        rule: Rule::BlockGiven,
-        given: Given::Block(channel, KeptBlock::first(channel, out)),
+        },
     }
 }
 

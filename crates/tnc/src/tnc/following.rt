@@ -6,7 +6,7 @@ ghost use Rattle.store.specs.Meaning.{Meaning};
 ghost use Rattle.ends.specs.Frames.{answer_body};
 ghost use Rattle.ends.specs.Sent.{over_wire, answer_length};
 ghost use Rattle.ends.specs.Tnc.{accepts, resets, by_tnc, tnc_step};
-ghost use Rattle.tnc.specs.Held.{held_answer};
+ghost use Rattle.tnc.specs.Held.{given_answer};
 ghost use Rattle.tnc.specs.Model.{tnc_of};
 ghost use Rattle.tnc.specs.Gone.{tnc_held};
 ghost use Rattle.tnc.specs.Left.{Left};
@@ -19,6 +19,7 @@ use super::reading::Request;
 use crate::answer::{Heard, Rule};
 use crate::held::{Given, Held, WaitingList};
 use ends::refusal::Refusal;
+use frame::head::Head;
 use store::Store;
 
 impl Link {
@@ -61,15 +62,11 @@ impl Link {
         ensures after { (inn : Meaning) → Left (by_tnc resets (request_shown request.entry) (tnc_of self.old) (O.Store.meaning out.old) inn) (tnc_of self.new) (O.Store.meaning out.new) inn wire.old wire.new }
     {
         let went = self.doubt(out);
-        let held = Held {
-            given: Given::List(WaitingList::of(out)),
-            reset: request.head.reset,
-            toggle: request.head.toggle,
-        };
+        let list = Given::List(WaitingList::of(out));
         Heard {
             rule: Rule::Reset,
             went,
-            sent: self.give(held, wire),
+            sent: self.give(list, request.head, wire),
         }
     }
 
@@ -88,26 +85,26 @@ impl Link {
     {
         let went = self.confirm(out);
         let Answered { rule, given } = request.answer(out, inn);
-        let held = Held {
-            given,
-            reset: request.head.reset,
-            toggle: request.head.toggle,
-        };
         Heard {
             rule,
             went,
-            sent: self.give(held, wire),
+            sent: self.give(given, request.head, wire),
         }
     }
 
-    // The answer is written, and held.
-    fn give(&mut self, held: Held, wire: &mut [u8]) -> usize
+    // The answer is written, and held. It has the frame's reset flag and toggle.
+    fn give(&mut self, given: Given, head: Head, wire: &mut [u8]) -> usize
         requires { longest_wire ≤ length wire.old }
-        ensures value { result ≡ answer_length (held_answer held) }
+        ensures value { result ≡ answer_length (given_answer given head.reset head.toggle) }
         ensures bound { result ≤ length wire.old }
-        ensures wire { wire.new ≡ over_wire (answer_body (held_answer held)) wire.old }
-        ensures after { tnc_of self.new ≡ tnc_held (held_answer held) (tnc_of self.old) }
+        ensures wire { wire.new ≡ over_wire (answer_body (given_answer given head.reset head.toggle)) wire.old }
+        ensures after { tnc_of self.new ≡ tnc_held (given_answer given head.reset head.toggle) (tnc_of self.old) }
     {
+        let held = Held {
+            given,
+            reset: head.reset,
+            toggle: head.toggle,
+        };
         let n = held.write(wire);
         self.held = Some(held);
         n

@@ -1,5 +1,5 @@
 -- The list of a store is good.
-use Rattle.std.proofs.Common.{◌≡◌, true, Bool, ℕ, List, sym, ap, ◌∙◌}
+use Rattle.std.proofs.Common.{ap, ◌∙◌}
 use Rattle.poll.specs.List.{list_of}
 use Rattle.ends.specs.Frames.{is_good}
 use Rattle.ends.proofs.Fit.{list_good}

@@ -1,5 +1,5 @@
 -- One channel more is marked, and at the end all are.
-use Rattle.std.proofs.Common.{◌≡◌, ℕ, ◌+◌, Bool, ltb, length, take, set, length-set, sym, refl, ap, ◌∙◌, subst, arith}
+use Rattle.std.proofs.Common.{◌≡◌, ℕ, ◌+◌, ltb, take, set, length-set, sym, refl, ap, ◌∙◌, arith}
 use Rattle.std.proofs.lemmas.List.{take_all}
 use Rattle.store.specs.Rules.{count_on}
 use Rattle.ends.specs.Tnc.{waiting_to}
