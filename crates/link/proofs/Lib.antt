@@ -6,3 +6,5 @@ mod Wrote
 mod Made
 mod Hosts
 mod Handed
+mod Quiet
+mod Heard
