@@ -1,5 +1,5 @@
 -- Blocks handed over at an end: when they were, and what the log then has.
-use Rattle.std.proofs.Common.{◌≡◌, ℕ, ◌<◌, ◌≤◌, Bool, true, false, cond, ◌||◌, eqb, nat_lt, Ok, Err, Result, List, [], ◌∷◌, ◌++◌, length, take, drop, refl, sym, ap, ◌∙◌}
+use Rattle.std.proofs.Common.{◌≡◌, ℕ, ◌≤◌, Bool, true, false, cond, ◌||◌, eqb, nat_lt, Ok, Err, Result, List, [], ◌∷◌, length, take, drop, refl, sym, ap, ◌∙◌}
 use Rattle.std.specs.Result.{is_ok}
 use Rattle.std.proofs.lemmas.Bool.{ltb-false}
 use Rattle.std.proofs.lemmas.List.{take_at}
@@ -7,10 +7,10 @@ use Rattle.poll.specs.Channel.{last_channel}
 use Rattle.frame.specs.Frame.{longest_block}
 use Rattle.store.specs.declared.refusal.Refusal as stores
 use Rattle.store.specs.Meaning.{Block, Meaning}
-use Rattle.store.specs.Rules.{copy_source, length_of, written_over}
+use Rattle.store.specs.Rules.{length_of, written_over}
 use Rattle.store.specs.Calls.{shown_by}
 use Rattle.ends.specs.declared.refusal.Refusal.{Refusal}
-use Rattle.ends.specs.Blocks.{granted, whole, submit_answer, collect_answer}
+use Rattle.ends.specs.Blocks.{granted, whole, submit_answer}
 use Rattle.host.specs.declared.note.DoubtNote.{DoubtNote}
 use Rattle.host.specs.Answers.{again_answer}
 

@@ -1,31 +1,27 @@
 -- Hearing a byte on a pair: which body passed, what the line rule then says, and how the run goes on.
-use Rattle.std.proofs.Common.{◌≡◌, ◌↔◌, ℕ, suc, ◌<◌, ◌≤◌, Bool, true, false, cond, Some, None, Option, Ok, Err, Result, List, [], ◌∷◌, ◌++◌, length, map, get_or, nat_lt, sym, refl, ap, ◌∙◌, subst, arith}
-use Rattle.std.specs.List.{AllByRecursion}
+use Rattle.std.proofs.Common.{◌≡◌, ℕ, suc, ◌<◌, ◌≤◌, true, cond, Some, None, Option, Ok, Err, Result, List, [], length, map, get_or, sym, refl, ap, ◌∙◌, subst, arith}
 use Rattle.std.proofs.lemmas.List.{append-nil, length-map, get_or-map}
-use Rattle.frame.specs.declared.form.Direction.TheVariants.{FromHost, FromTnc}
-use Rattle.wire.specs.Wire.{longest_wire}
 use Rattle.reader.specs.declared.fault.Fault.{Fault}
 use Rattle.reader.specs.declared.state.Heard as reader
 use Rattle.reader.specs.declared.state.Heard.TheVariants.{More, Frame}
 use Rattle.reader.specs.Read.{Meaning, Next, passed, hears}
 use Rattle.store.specs.Meaning as store
-use Rattle.ends.specs.declared.refusal.Refusal.{Refusal}
-use Rattle.ends.specs.Frames.{Request, Answer, request_body, answer_body, request_read, answer_read, nothing, one}
-use Rattle.ends.specs.Blocks.{Word, silent}
+use Rattle.ends.specs.Frames.{Request, Answer, answer_body, answer_read, nothing}
+use Rattle.ends.specs.Blocks.{Word}
 use Rattle.ends.specs.Ear.{heard_by}
 use Rattle.ends.specs.Heard.{body_in, body_heard, or_fault}
-use Rattle.ends.specs.Host.{Host, HostStep, HostRule, stale, spare_used, opened, confirmed, block_refused, nothing_there, received, listed, no_room, falls, stays, by_hear, host_rule, hear_step}
+use Rattle.ends.specs.Host.{Host, HostStep, HostRule, stale, spare_used, opened, confirmed, block_refused, nothing_there, received, listed, no_room, falls, by_hear, host_rule, hear_step}
 use Rattle.host.specs.Answers as host
 use Rattle.host.specs.Hear as host_hear
 use Rattle.host.specs.Model.{host_of}
 use Rattle.tnc.specs.Model.{tnc_of}
-use Rattle.law.specs.Runs.{World, Call, act, Allowed, after, after_host, with_readers, host_hears, no_request, request_at, answer_at}
+use Rattle.law.specs.Runs.{World, Call, act, Allowed, after_host, with_readers, host_hears, answer_at}
 use Rattle.link.specs.declared.pair.Pair.{Pair}
-use Rattle.link.specs.Line.{place_of, next_of, Passes}
+use Rattle.link.specs.Line.{place_of}
 use Rattle.link.specs.Came.{came}
-use Rattle.link.specs.Sent.{Sent, sent_by, Sends, MayPass, with_sent, after_pass}
+use Rattle.link.specs.Sent.{Sent, sent_by, MayPass, with_sent, after_pass}
 use Rattle.link.specs.Log.{Keeps}
-use Rattle.link.specs.Pair.{Stores, stores, world, world_of, Stands, Makes}
+use Rattle.link.specs.Pair.{stores, world_of, Makes}
 use Rattle.link.proofs.Made.{world_from, same_world, made}
 
 -- WHICH BODY PASSED, by the answer
@@ -67,6 +63,11 @@ module _ {A : Type 0} (body : A → List ℕ) (none : A) where
         there,
         sym same ∙ may.same ∙ ap (λ l. get_or l place x) is ∙ get_or-map body fs place none x there,
       )
+
+-- a body that passes adds nothing to what was written
+pub same_written : (s : Sent) (place : ℕ) (o : Option (List ℕ)) → (after_pass s place o).written ≡ s.written
+same_written s place None = refl
+same_written s place (Some b) = refl
 
 -- THE HOST
 
@@ -130,7 +131,3 @@ module _ (p q : Pair) (byte place : ℕ) (ho hi to ti : store.Meaning) where
       ∙ acts_on (body_heard n) s.up s.dn s.tries ∙ sym (acts w))
       (ap (λ (x : Sent). x.written) from_host ∙ append-nil F.written ∙ s.up_is)
       (ap (λ (x : Sent). x.written) from_tnc ∙ same_written G place (body_heard n) ∙ s.dn_is)
-    where
-      same_written : (s : Sent) (place : ℕ) (o : Option (List ℕ)) → (after_pass s place o).written ≡ s.written
-      same_written s place None = refl
-      same_written s place (Some b) = refl

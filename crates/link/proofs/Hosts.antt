@@ -1,5 +1,5 @@
 -- Open, step and timer: what they do in a run, and what they wrote, by what they answered.
-use Rattle.std.proofs.Common.{◌≡◌, ℕ, Bool, true, false, cond, Ok, Err, Result, nat_lt, refl, sym, ap, ◌∙◌}
+use Rattle.std.proofs.Common.{◌≡◌, ℕ, Bool, true, false, cond, Ok, Err, nat_lt, refl, sym, ap, ◌∙◌}
 use Rattle.std.specs.Result.{result_unwrap_or}
 use Rattle.wire.specs.Wire.{longest_wire}
 use Rattle.store.specs.Meaning.{Meaning}
@@ -7,7 +7,7 @@ use Rattle.ends.specs.declared.refusal.Refusal.{Refusal}
 use Rattle.ends.specs.declared.refusal.Refusal.TheVariants.{ShortWire}
 use Rattle.ends.specs.Frames.{request_body}
 use Rattle.ends.specs.Blocks.{silent}
-use Rattle.ends.specs.Host.{State, fresh, opening, idle, on_its_way, down, Host, HostStep, stays, open_rule, by_open, open_step, open_call, step_rule, by_step, step_call, Sending, not_allowed, sends, sends_again, gives_up, timer_rule, by_timer, timer_call, sent_again, loss_word}
+use Rattle.ends.specs.Host.{State, fresh, opening, idle, on_its_way, down, Host, HostStep, stays, open_rule, by_open, step_rule, by_step, Sending, not_allowed, sends, sends_again, gives_up, timer_rule, by_timer, timer_call, sent_again, loss_word}
 use Rattle.law.specs.Runs.{World, after_host}
 use Rattle.host.specs.Answers as host
 use Rattle.host.specs.Answers.{open_answer, step_answer, timer_answer, repeat_length, fall_by}

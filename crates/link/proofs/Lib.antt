@@ -8,3 +8,4 @@ mod Hosts
 mod Handed
 mod Quiet
 mod Heard
+mod TncHeard

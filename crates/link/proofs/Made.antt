@@ -1,19 +1,18 @@
 -- A call that changes a pair as the rules say goes on with the run that reached it.
-use Rattle.std.proofs.Common.{◌≡◌, ◌↔◌, ℕ, List, ◌++◌, map, None, sym, refl, ap, ◌∙◌, subst}
+use Rattle.std.proofs.Common.{◌≡◌, ◌↔◌, ℕ, List, ◌++◌, map, sym, refl, ap, ◌∙◌, subst}
 use Rattle.std.specs.List.{AllByRecursion}
 use Rattle.frame.specs.declared.form.Direction.TheVariants.{FromHost, FromTnc}
 use Rattle.frame.specs.Frame.{Frame, Body}
 use Rattle.reader.specs.Read as reader
-use Rattle.store.specs.Meaning.{Meaning}
 use Rattle.ends.specs.Frames.{Request, Answer, request_body, answer_body, request_frame, answer_frame}
 use Rattle.ends.specs.Blocks.{Word}
 use Rattle.ends.specs.Ear.{heard_by}
 use Rattle.ends.specs.Host.{Host, HostStep}
-use Rattle.ends.specs.Tnc.{Tnc, TncStep}
+use Rattle.ends.specs.Tnc.{Tnc}
 use Rattle.ends.proofs.Fit.{FitRequest, FitAnswer, request_body_is, answer_body_is}
 use Rattle.host.specs.Model.{host_of}
 use Rattle.tnc.specs.Model.{tnc_of}
-use Rattle.law.specs.Runs.{World, Limits, Call, Run, after, act, Allowed, after_host, with_written}
+use Rattle.law.specs.Runs.{World, Call, Run, after, act, Allowed, after_host, with_written}
 use Rattle.law.specs.Law.{TakesDown, UsedUp}
 use Rattle.law.proofs.Law.{delivery_law}
 use Rattle.law.proofs.Fitting.{fits}
@@ -21,7 +20,7 @@ use Rattle.link.specs.declared.pair.Pair.{Pair}
 use Rattle.link.specs.Line.{place_of, next_of}
 use Rattle.link.specs.Sent.{Sent, sent_by, Sends, with_sent}
 use Rattle.link.specs.Log.{Keeps}
-use Rattle.link.specs.Pair.{Stores, stores, world_of, Stands, world, Reached, Made, Makes}
+use Rattle.link.specs.Pair.{Stores, stores, world_of, Stands, world, Made, Makes}
 use Rattle.link.proofs.Wrote.{wire_written, bodies_written, bodies_after, sends}
 
 -- a world by its parts
@@ -77,7 +76,7 @@ made k p q m n s ok up dn tries acts ups dns =
 request_fits : (q : Request) → FitRequest q → (x : Frame) × Body FromHost (request_body q) x
 request_fits q f = (request_frame q, request_body_is q f)
 
-answer_fits : (a : Answer) → FitAnswer a → (x : Frame) × Body FromTnc (answer_body a) x
+pub answer_fits : (a : Answer) → FitAnswer a → (x : Frame) × Body FromTnc (answer_body a) x
 answer_fits a f = (answer_frame a, answer_body_is a f)
 
 -- a call of the host that hears nothing

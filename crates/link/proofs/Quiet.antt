@@ -1,5 +1,5 @@
 -- Submits and collects: they neither write nor hear.
-use Rattle.std.proofs.Common.{◌≡◌, ℕ, Bool, true, false, List, [], ◌∷◌, Result, None, sym, refl, ap, ◌∙◌}
+use Rattle.std.proofs.Common.{◌≡◌, ℕ, Bool, true, Result, sym, refl, ap, ◌∙◌}
 use Rattle.store.specs.declared.refusal.Refusal as stores
 use Rattle.store.specs.Meaning.{Block, Meaning}
 use Rattle.store.specs.Rules.{copy_source}
@@ -16,7 +16,7 @@ use Rattle.link.specs.declared.log.Log.{Log}
 use Rattle.link.specs.declared.pair.Pair.{Pair}
 use Rattle.link.specs.Sent.{Sent, sent_by, with_way}
 use Rattle.link.specs.Log.{Keeps}
-use Rattle.link.specs.Pair.{Stores, stores, world, Stands, Makes}
+use Rattle.link.specs.Pair.{stores, world, Makes}
 use Rattle.link.proofs.Made.{world_from, quiet_makes}
 
 -- what is kept of a call that was granted, and of one that was not

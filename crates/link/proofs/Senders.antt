@@ -1,5 +1,5 @@
 -- What a call wrote joins the sender's line, and what its answer named joins its way.
-use Rattle.std.proofs.Common.{◌≡◌, ℕ, ◌≤◌, List, [], ◌∷◌, ◌++◌, length, Result, sym, ap, ◌∙◌, arith}
+use Rattle.std.proofs.Common.{◌≡◌, ℕ, List, [], ◌∷◌, ◌++◌, length, sym, ap, ◌∙◌, arith}
 use Rattle.std.proofs.lemmas.List.{append-nil}
 use Rattle.frame.specs.declared.form.Direction.{Direction}
 use Rattle.frame.specs.Frame.{Frame, Body}
@@ -12,7 +12,7 @@ use Rattle.link.specs.declared.way.Way.{Way}
 use Rattle.link.specs.declared.sender.Sender.{Sender}
 use Rattle.link.specs.Line.{bodies}
 use Rattle.link.specs.Way.{way_of}
-use Rattle.link.specs.Sent.{Sent, Sends, sent_by, with_sent}
+use Rattle.link.specs.Sent.{Sends, sent_by, with_sent}
 
 pub recorded : (d : Direction) (wire : List ℕ) (old new : Line) → (wire ≡ [] → ⊥)
     → ((body : List ℕ) (f : Frame) → Body d body f → wire ≡ wire_of body → bodies new ≡ bodies old ++ body ∷ [])

@@ -1,8 +1,8 @@
 -- One more in a list of a way is one more on its channel.
-use Rattle.std.proofs.Common.{◌≡◌, ℕ, Bool, true, false, cond, eqb, Some, List, [], ◌∷◌, ◌++◌, map, vec_items, sym, refl, ap, ◌∙◌}
+use Rattle.std.proofs.Common.{◌≡◌, ℕ, Bool, true, false, cond, eqb, Some, List, [], ◌∷◌, ◌++◌, map, sym, refl, ap, ◌∙◌}
 use mathlib.Core.Path.{fun_ext}
 use Rattle.std.proofs.lemmas.Bool.{eqb-true}
-use Rattle.std.proofs.lemmas.List.{append-nil, map_push}
+use Rattle.std.proofs.lemmas.List.{map_push}
 use Rattle.store.specs.Meaning.{Block, plain}
 use Rattle.store.specs.Arrival.{Entry, on, view}
 use Rattle.store.proofs.Arrivals.{view_push}
@@ -37,8 +37,7 @@ named_at : (xs : List Went) (x : Went) (k : ℕ) → named_on (xs ++ x ∷ []) k
 named_at [] x k = refl
 named_at (y ∷ xs) x k =
     elim (eqb k (channel_of y))
-    as (λ t. cond t (named_by y ∷ named_on (xs ++ x ∷ []) k) (named_on (xs ++ x ∷ []) k) ≡ cond (eqb k (channel_of x)) (cond t (named_by y ∷ named_on xs k) (named_on xs k) ++ named_by x ∷ []) (cond t (named_by y ∷ named_on xs k) (named_on xs k)))
-    [
+    as (λ t. cond t (named_by y ∷ named_on (xs ++ x ∷ []) k) (named_on (xs ++ x ∷ []) k) ≡ cond (eqb k (channel_of x)) (cond t (named_by y ∷ named_on xs k) (named_on xs k) ++ named_by x ∷ []) (cond t (named_by y ∷ named_on xs k) (named_on xs k))) [
       | true ↦ ap (λ l. named_by y ∷ l) (named_at xs x k) ∙ under (eqb k (channel_of x)) (named_by y) (named_on xs k) (named_by x)
       | false ↦ named_at xs x k
     ]

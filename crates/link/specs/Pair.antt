@@ -1,5 +1,5 @@
 -- A pair of ends as a world of the law's runs, and what the law says of each call on it.
-use Rattle.std.specs.Prelude.{◌≡◌, ℕ, ◌≤◌, ◌↔◌, List, [], map, None}
+use Rattle.std.specs.Prelude.{◌≡◌, ℕ, ◌≤◌, ◌↔◌, List, map, None}
 use Rattle.poll.specs.Channel.{last_channel}
 use Rattle.store.specs.Meaning.{Meaning, empty}
 use Rattle.ends.specs.Frames.{Request, Answer, request_body, answer_body}

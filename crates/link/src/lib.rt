@@ -4,6 +4,5 @@
 pub mod line;
 pub mod log;
 pub mod pair;
-
 pub mod sender;
 pub mod way;

@@ -48,11 +48,7 @@ impl Pair {
     }
 
     /// The host's timer.
-    pub fn host_timer<O: Store>(
-        &mut self,
-        out: &mut O,
-        wire: &mut [u8],
-    ) -> Result<Timed, Refusal>
+    pub fn host_timer<O: Store>(&mut self, out: &mut O, wire: &mut [u8]) -> Result<Timed, Refusal>
         ensures answer { result ≡ timer_answer (host_of self.old.host.link) (length wire.old) }
         ensures after { (inn : Meaning) → Left (timer_call (length wire.old) (host_of self.old.host.link) (O.Store.meaning out.old) inn) self.old.host self.new.host (O.Store.meaning out.new) inn wire.old wire.new }
         ensures tnc { self.new.tnc ≡ self.old.tnc }
@@ -79,7 +75,8 @@ impl Pair {
         ensures law { (to ti : Meaning) → Makes (host_hear byte place) self.old (stores (O.Store.meaning out.old) (I.Store.meaning inn.old) to ti) self.new (stores (O.Store.meaning out.new) (I.Store.meaning inn.new) to ti) }
     {
         let answer = self.host.hear(out, inn, byte);
-        self.log.host_heard(place, passing(&answer, self.host.ear()));
+        self.log
+            .host_heard(place, passing(&answer, self.host.ear()));
         self.log.host_did(&[], confirmed(&answer));
         answer
     }

@@ -5,12 +5,13 @@ ghost use Rattle.reader.specs.Read.{passed};
 ghost use Rattle.ends.specs.Ear.{heard_by};
 ghost use Rattle.ends.specs.Named.{word_of};
 ghost use Rattle.host.specs.Answers.{timed_word, byte_word};
-ghost use Rattle.link.specs.Came.{came, step_length, timer_length};
+ghost use Rattle.link.specs.Came.{came, step_length, timer_length, hear_length, tnc_word};
 
 use ends::ear::Ear;
 use ends::name::Went;
 use ends::refusal::Refusal;
 use host::answer::{Heard, Stepped, Timed};
+use tnc::answer::Heard as Answered;
 
 // The body that passed with the byte that was answered so, if one did.
 pub(crate) fn passing<'a, T>(answer: &Result<Option<T>, Refusal>, ear: &'a Ear) -> Option<&'a [u8]>
@@ -50,5 +51,16 @@ pub(crate) fn confirmed(answer: &Result<Option<Heard>, Refusal>) -> Option<Went>
     match answer {
         Ok(Some(heard)) => heard.went(),
         Ok(None) | Err(_) => None,
+    }
+}
+
+// How many bytes the TNC sent at a byte, and the block that it named.
+pub(crate) fn answered(answer: &Result<Option<Answered>, Refusal>) -> (usize, Option<Went>)
+    ensures sent { result.0 ≡ hear_length answer.now }
+    ensures named { word_of result.1 ≡ tnc_word answer.now }
+{
+    match answer {
+        Ok(Some(heard)) => (heard.sent, heard.went),
+        Ok(None) | Err(_) => (0, None),
     }
 }

@@ -1,9 +1,8 @@
 -- What the ear shows after all the bytes is the body whose wire form they are.
-use Rattle.std.proofs.Common.{◌≡◌, List, ℕ, ◌≤◌, length, take, Some, None, rules, arith, sym, ap, ◌∙◌}
+use Rattle.std.proofs.Common.{◌≡◌, ◌≤◌, length, Some, None, rules, arith, ap, ◌∙◌}
 use Rattle.std.proofs.lemmas.List.{take_all}
-use Rattle.frame.specs.Frame.{Frame, Body, longest_body}
-use Rattle.wire.specs.Wire.{wire_of}
-use Rattle.reader.specs.Read.{fresh, passed}
+use Rattle.frame.specs.Frame.{longest_body}
+use Rattle.reader.specs.Read.{fresh}
 use Rattle.reader.specs.Laws.{after}
 use Rattle.ends.specs.Ear.{heard_by}
 use Rattle.link.proofs.Reading.{one_heard, shows_body, body_short}

@@ -1,7 +1,7 @@
 -- The body at that place is the one that passed.
-use Rattle.std.proofs.Common.{◌≡◌, ℕ, ◌<◌, ◌≤◌, true, List, length, map, get_or, vec_items, sym, ap, ◌∙◌, arith, rules}
+use Rattle.std.proofs.Common.{◌≡◌, ◌<◌, ◌≤◌, length, get_or, vec_items, sym, ap, ◌∙◌, arith}
 use Rattle.std.proofs.lemmas.List.{length-map, get_or-map}
-use Rattle.link.specs.Line.{bodies, place_of, Passes}
+use Rattle.link.specs.Line.{bodies, place_of}
 use Rattle.link.proofs.line.Line.pass.Goals as goal
 
 pub returns-then-ahead-clause-answer : goal.returns-then-ahead-clause-answer

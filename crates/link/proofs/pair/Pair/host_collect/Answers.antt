@@ -1,9 +1,7 @@
 -- The run goes on by a collect.
-use Rattle.std.proofs.Common.{◌≡◌, true, false, [], ◌∷◌, length, take, rules, sym, refl, ap, ap₂, ◌∙◌}
-use Rattle.store.specs.Meaning.{plain}
+use Rattle.std.proofs.Common.{length, rules, sym, refl, ap, ap₂, ◌∙◌}
 use Rattle.store.specs.Rules.{copy_source}
 use Rattle.store.specs.Calls.{shown_by}
-use Rattle.ends.specs.Blocks.{granted}
 use Rattle.law.specs.Runs.{host_collect, collecting}
 use Rattle.link.specs.declared.pair.Pair.{Pair}
 use Rattle.link.specs.Sent.{sent_by, with_way}
@@ -23,10 +21,10 @@ returns-in-Ok-clause-law g c = λ ho to ti.
     let out = handed_out C c.in-Ok.len c.args.buffer.now c.collect-answer.new.buffer (sym c.collect-answer.ensures.answer ∙ c.in-Ok.is) c.collect-answer.ensures.buffer in
     host_collect_makes (host_collect k size) p q k inn _ size ho to ti (λ w. refl) (λ w. tt) refl refl c.collect-answer.ensures.inn
     (λ whole.
-        let kept = c.host_collected.ensures.tnc whole in (
-          kept.0,
-          (ap sent_by c.host_collected.ensures.host, kept.1 (search rules) ∙ ap₂ (λ y bs. with_way G (collecting y k bs G.way)) (sym out.0) (sym out.1)),
-        ))
+    let kept = c.host_collected.ensures.tnc whole in (
+      kept.0,
+      (ap sent_by c.host_collected.ensures.host, kept.1 (search rules) ∙ ap₂ (λ y bs. with_way G (collecting y k bs G.way)) (sym out.0) (sym out.1)),
+    ))
 
 pub returns-in_default-clause-law : goal.returns-in_default-clause-law
 returns-in_default-clause-law g c = λ ho to ti.

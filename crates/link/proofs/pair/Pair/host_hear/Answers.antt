@@ -1,12 +1,10 @@
 -- The run goes on by a byte heard at the host.
-use Rattle.std.proofs.Common.{◌≡◌, cond, None, [], sym, refl, ap, ap₂, ◌∙◌}
+use Rattle.std.proofs.Common.{◌≡◌, cond, None, [], refl, ap, ap₂, ◌∙◌}
 use Rattle.reader.specs.Read.{passed, hears}
 use Rattle.std.specs.Option.{option_map}
 use Rattle.ends.specs.Ear.{heard_by}
 use Rattle.ends.specs.Heard.{body_heard}
 use Rattle.ends.specs.Named.{word_of}
-use Rattle.host.specs.Answers.{byte_word}
-use Rattle.host.specs.Hear.{hear_call}
 use Rattle.host.specs.Model.{host_of}
 use Rattle.law.specs.Runs.{host_hear}
 use Rattle.link.specs.declared.pair.Pair.{Pair}
@@ -31,9 +29,9 @@ returns-clause-law g c = λ to ti.
     host_hear_makes p q c.args.byte c.args.place ho hi to ti (host_hear c.args.byte c.args.place) (λ w. refl) (λ w ok. ok) _ _ o word is
     left.host_is left.out_is left.inn_is c.hear-answer.ensures.ear refl
     (λ whole.
-        let did = c.host_did.ensures.host whole in
-        let heard = c.host_heard.ensures.tnc did.0 in (
-          heard.0,
-          (heard.1, did.1 [] refl ∙ ap (λ x. with_sent (sent_by x) [] word) c.host_heard.ensures.host, ap sent_by c.host_did.ensures.tnc ∙ c.host_heard.ensures.passed),
-        ))
+    let did = c.host_did.ensures.host whole in
+    let heard = c.host_heard.ensures.tnc did.0 in (
+      heard.0,
+      (heard.1, did.1 [] refl ∙ ap (λ x. with_sent (sent_by x) [] word) c.host_heard.ensures.host, ap sent_by c.host_did.ensures.tnc ∙ c.host_heard.ensures.passed),
+    ))
     (c.confirmed.ensures ∙ c.hear-answer.ensures.named)

@@ -1,5 +1,5 @@
 -- The run goes on by an open.
-use Rattle.std.proofs.Common.{◌≡◌, ℕ, cond, length, nat_lt, refl, ap, ap₂, ◌∙◌}
+use Rattle.std.proofs.Common.{cond, length, nat_lt, refl, ap, ap₂, ◌∙◌}
 use Rattle.std.specs.Result.{result_unwrap_or}
 use Rattle.wire.specs.Wire.{longest_wire}
 use Rattle.ends.specs.Frames.{request_body}
@@ -8,7 +8,7 @@ use Rattle.ends.specs.Host.{open_rule, open_step, open_call}
 use Rattle.host.specs.Model.{host_of}
 use Rattle.law.specs.Runs.{host_open, tries_from}
 use Rattle.link.specs.declared.pair.Pair.{Pair}
-use Rattle.link.specs.Pair.{Stores, stores, world}
+use Rattle.link.specs.Pair.{stores, world}
 use Rattle.link.proofs.Wrote.{taken}
 use Rattle.link.proofs.Made.{host_makes}
 use Rattle.link.proofs.Hosts.{cond_host, open_sent, open_word}

@@ -1,14 +1,14 @@
 -- The line has one more where a frame was written, and the way what was named.
-use Rattle.std.proofs.Common.{◌≡◌, ℕ, List, [], ◌∷◌, ◌++◌, Option, length, rules, refl, sym, ap, ◌∙◌}
+use Rattle.std.proofs.Common.{◌≡◌, ℕ, List, [], ◌++◌, rules, ap, ◌∙◌}
 use Rattle.std.proofs.lemmas.List.{nil_from_length}
 use Rattle.std.proofs.lemmas.Result.{on_ok_weaker}
 use Rattle.ends.specs.Named.{word_of}
-use Rattle.law.specs.Runs.{Way, naming}
+use Rattle.law.specs.Runs.{naming}
 use Rattle.link.specs.declared.way.Way as way
 use Rattle.link.specs.declared.sender.Sender.{Sender}
 use Rattle.link.specs.Line.{bodies}
 use Rattle.link.specs.Way.{way_of}
-use Rattle.link.specs.Sent.{Sent, Sends, sent_by, with_sent}
+use Rattle.link.specs.Sent.{Sends}
 use Rattle.link.proofs.Senders.{recorded, not_recorded, joined}
 use Rattle.link.proofs.sender.Sender.did.Goals as goal
 use Rattle.link.proofs.sender.Sender.did.Goals.{then-not-is_empty+in_ok-record, else-not-is_empty}

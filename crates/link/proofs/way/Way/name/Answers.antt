@@ -1,5 +1,5 @@
 -- One name more on its channel.
-use Rattle.std.proofs.Common.{◌≡◌, ◌∙◌, Some, Option, vec_items, sym, refl, ap}
+use Rattle.std.proofs.Common.{◌∙◌, Option, vec_items, sym, refl, ap}
 use Rattle.ends.specs.declared.name.Went.{Went}
 use Rattle.ends.specs.Named.{word_of}
 use Rattle.law.specs.Runs.{naming}

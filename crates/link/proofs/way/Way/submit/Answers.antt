@@ -1,6 +1,5 @@
 -- One block more on its channel.
 use Rattle.std.proofs.Common.{vec_items, ap}
-use Rattle.law.specs.Runs as law
 use Rattle.link.specs.Way.{way_of}
 use Rattle.link.proofs.Ways.{one_posted}
 use Rattle.link.proofs.way.Way.submit.Goals as goal
