@@ -125,7 +125,7 @@ module _ (p q : Pair) (byte place : ℕ) (ho hi to ti : store.Meaning) where
       let from_host : sent_by q.log.from_host ≡ with_sent F [] S.word = kept.1.1 ∙ ap (with_sent F []) named in
       let from_tnc : sent_by q.log.from_tnc ≡ after_pass G place (body_heard n) = kept.1.2 ∙ ap (after_pass G place) is in
       let into : stores ho' hi' to ti ≡ stores S.out S.inn to ti = ap (λ x. stores x hi' to ti) out ∙ ap (λ x. stores S.out x to ti) inn in
-      made k p q m (stores ho' hi' to ti) s ok s.up s.dn s.tries
+      made k p q m (stores ho' hi' to ti) kept.0 s ok s.up s.dn s.tries
       (same_world q (stores ho' hi' to ti) (stores S.out S.inn to ti) s.up s.dn s.tries S.host n.then (tnc_of p.tnc.link) (heard_by p.tnc.ear) (with_sent F [] S.word) (after_pass G place (body_heard n))
       host ear (ap (λ t. tnc_of t.link) tnc) (ap (λ t. heard_by t.ear) tnc) from_host from_tnc into
       ∙ acts_on (body_heard n) s.up s.dn s.tries ∙ sym (acts w))

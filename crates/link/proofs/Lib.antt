@@ -9,3 +9,4 @@ mod Handed
 mod Quiet
 mod Heard
 mod TncHeard
+mod Played

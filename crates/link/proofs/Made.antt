@@ -1,5 +1,5 @@
 -- A call that changes a pair as the rules say goes on with the run that reached it.
-use Rattle.std.proofs.Common.{◌≡◌, ◌↔◌, ℕ, List, ◌++◌, map, sym, refl, ap, ◌∙◌, subst}
+use Rattle.std.proofs.Common.{◌≡◌, ◌↔◌, None, ℕ, List, ◌++◌, map, sym, refl, ap, ◌∙◌, subst}
 use Rattle.std.specs.List.{AllByRecursion}
 use Rattle.frame.specs.declared.form.Direction.TheVariants.{FromHost, FromTnc}
 use Rattle.frame.specs.Frame.{Frame, Body}
@@ -59,12 +59,13 @@ same_world p m n up dn tries h he t te f g a b c d e i j =
     ∙ ap (λ x. world_from h he t te f g x up dn tries) j
 
 -- the run goes on, and the law holds of it
-pub made : (k : Call) (p q : Pair) (m n : Stores) (s : Stands p m) → Allowed k (world s) → (up : List Request) (dn : List Answer) (tries : ℕ)
+pub made : (k : Call) (p q : Pair) (m n : Stores) → p.log.gap ≡ None → (s : Stands p m) → Allowed k (world s) → (up : List Request) (dn : List Answer) (tries : ℕ)
     → world_of q n up dn tries ≡ act k (world s) → (sent_by q.log.from_host).written ≡ map request_body up → (sent_by q.log.from_tnc).written ≡ map answer_body dn
     → Made k p m q n
-made k p q m n s ok up dn tries acts ups dns =
+made k p q m n whole s ok up dn tries acts ups dns =
     let run : Run s.setting s.limits (world_of q n up dn tries) = subst (Run s.setting s.limits) (sym acts) (after s.run k ok) in
     record {
+      whole = whole;
       before = s;
       allowed = ok;
       after = record { setting = s.setting; limits = s.limits; up = up; dn = dn; tries = tries; up_is = ups; dn_is = dns; run = run };
@@ -96,7 +97,7 @@ module _ (k : Call) (p q : Pair) (m n : Stores) (S : HostStep) (T : ℕ → ℕ)
       let ok = allowed s in
       let all : AllByRecursion FitRequest (with_written s.up S.wrote) = subst (λ (w : World). AllByRecursion FitRequest w.up) (acts s) (fits (after s.run k ok)).up in
       let sent = kept.1 (bodies_written request_body S.wrote) (sends request_body FromHost FitRequest request_fits s.up S.wrote all bytes wrote) ∙ ap (with_sent (sent_by p.log.from_host) (bodies_written request_body S.wrote)) named in
-      made k p q m n s ok (with_written s.up S.wrote) s.dn (T s.tries)
+      made k p q m n kept.0 s ok (with_written s.up S.wrote) s.dn (T s.tries)
       (same_world q n (stores S.out S.inn m.tnc_out m.tnc_in) _ _ _ S.host (heard_by p.host.ear) (tnc_of p.tnc.link) (heard_by p.tnc.ear) (with_sent (sent_by p.log.from_host) (bodies_written request_body S.wrote) S.word) (sent_by p.log.from_tnc)
       host (ap heard_by ear) (ap (λ t. tnc_of t.link) tnc) (ap (λ t. heard_by t.ear) tnc) sent (ap sent_by other) into ∙ sym (acts s))
       (ap (λ (x : Sent). x.written) sent ∙ ap (λ l. l ++ bodies_written request_body S.wrote) s.up_is ∙ sym (bodies_after request_body s.up S.wrote))
@@ -114,7 +115,7 @@ module _ (k : Call) (p q : Pair) (m n : Stores) (h : Host) (t : Tnc) (f g : Sent
   quiet_makes acts allowed host host_ear tnc tnc_ear keeps ups dns reached whole =
       let kept = keeps whole in
       let s = reached kept.0 in
-      made k p q m n s (allowed s) s.up s.dn s.tries
+      made k p q m n kept.0 s (allowed s) s.up s.dn s.tries
       (same_world q n n s.up s.dn s.tries h (heard_by p.host.ear) t (heard_by p.tnc.ear) f g host (ap heard_by host_ear) tnc (ap heard_by tnc_ear) kept.1.0 kept.1.1 refl ∙ sym (acts s))
       (ap (λ (x : Sent). x.written) kept.1.0 ∙ ups ∙ s.up_is)
       (ap (λ (x : Sent). x.written) kept.1.1 ∙ dns ∙ s.dn_is)

@@ -134,7 +134,7 @@ module _ (p q : Pair) (size byte place : ℕ) (ho hi to ti : store.Meaning) wher
       let from_tnc : sent_by q.log.from_tnc ≡ with_sent G written S.word = kept.1.1 written (sends answer_body FromTnc FitAnswer answer_fits s.dn S.wrote all bytes wrote) ∙ ap (with_sent G written) named in
       let from_host : sent_by q.log.from_host ≡ after_pass F place P = kept.1.2 ∙ ap (after_pass F place) is in
       let into : stores ho hi to' ti' ≡ stores ho hi S.out S.inn = ap (λ x. stores ho hi x ti') out ∙ ap (λ x. stores ho hi S.out x) inn in
-      made k p q m (stores ho hi to' ti') s ok s.up (with_written s.dn S.wrote) s.tries
+      made k p q m (stores ho hi to' ti') kept.0 s ok s.up (with_written s.dn S.wrote) s.tries
       (same_world q (stores ho hi to' ti') (stores ho hi S.out S.inn) s.up (with_written s.dn S.wrote) s.tries (host_of p.host.link) (heard_by p.host.ear) S.tnc ear_after (after_pass F place P) (with_sent G written S.word)
       (ap (λ h. host_of h.link) host) (ap (λ h. heard_by h.ear) host) tnc ear from_host from_tnc into ∙ on)
       (ap (λ (x : Sent). x.written) from_host ∙ same_written F place P ∙ s.up_is)

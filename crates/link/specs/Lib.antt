@@ -5,3 +5,4 @@ pub mod Sent
 pub mod Log
 pub mod Came
 pub mod Pair
+pub mod Played

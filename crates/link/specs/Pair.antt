@@ -70,6 +70,7 @@ Reached p m = p.log.gap ≡ None → Stands p m
 -- on by it to exactly q and n. After it, delivery holds on every channel and both ways. And where the lines have repeated
 -- nothing, it takes the link down exactly if it is a granted timer of a frame that has had all its repeats.
 pub record Made (k : Call) (p : Pair) (m : Stores) (q : Pair) (n : Stores) : Type 0 where
+  pub whole : p.log.gap ≡ None
   pub before : Stands p m
   pub allowed : Allowed k (world before)
   pub after : Stands q n

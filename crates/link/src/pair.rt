@@ -6,6 +6,7 @@ use tnc::tnc::Tnc;
 pub mod host_calls;
 pub mod making;
 pub mod passing;
+pub mod playing;
 pub mod tnc_calls;
 
 /// A host, a TNC, and the log of what they have sent.
