@@ -1,0 +1,64 @@
+// The areas of strips, and which store is chosen for a place.
+ghost use Rattle.std.specs.Prelude.{◌≡◌, vec_len};
+ghost use Rattle.strip.specs.Refusal.{check_answer};
+
+use crate::any_store::AnyStore;
+use shelf::Shelf;
+use std::alloc::{AllocError, Global};
+use strip::refusal::{AreaRefusal, check};
+use strip::{LONGEST_AREA, Strip};
+
+/// An area that a strip can be made of.
+#[derive(Drop)]
+pub struct Area {
+    bytes: Vec<u8>,
+    ghost granted: { check_answer (vec_len bytes) ≡ Ok tt },
+}
+
+/// Why there is no such area.
+#[derive(Clone, Copy)]
+pub enum AreaError {
+    Refused(AreaRefusal),
+    NoMemory,
+}
+
+/// The store that is chosen for a place.
+#[derive(Drop)]
+pub enum Choice {
+    Shelf,
+    Strip(Area),
+}
+
+impl From<AreaRefusal> for AreaError {
+    fn from(e: AreaRefusal) -> AreaError {
+        AreaError::Refused(e)
+    }
+}
+
+impl From<AllocError> for AreaError {
+    fn from(_e: AllocError) -> AreaError {
+        AreaError::NoMemory
+    }
+}
+
+impl Area {
+    /// An area of so many bytes, all of them 0. Of a length that no strip has, one byte more than the longest is enough to see that.
+    pub fn new(alloc: Global, length: u64) -> Result<Area, AreaError> {
+        let length = usize::try_from(length)
+            .unwrap_or(usize::MAX)
+            .min(LONGEST_AREA + 1);
+        let bytes = vec![in alloc; 0; length]?;
+        check(bytes.as_slice())?;
+        Ok(Area { bytes })
+    }
+}
+
+impl Choice {
+    /// A store of the chosen kind, empty.
+    pub fn store(&mut self) -> AnyStore<'_> {
+        match self {
+            Choice::Shelf => AnyStore::Shelf(Shelf::new()),
+            Choice::Strip(area) => AnyStore::Strip(Strip::new(area.bytes.as_mut_slice())),
+        }
+    }
+}

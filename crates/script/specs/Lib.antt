@@ -1,0 +1,6 @@
+pub mod Bytes
+pub mod Names
+pub mod Numbers
+pub mod Said
+pub mod Unreadable
+pub mod Words

@@ -1,0 +1,112 @@
+// The calls of a script, made one after the other.
+use crate::script_lines::ScriptLines;
+use crate::telling::Teller;
+use replay::notes::Notes;
+use replay::session::{Session, host_write_off};
+use script::command::{Command, HostCall, TncCall};
+use script::digits::Hex;
+use script::name::Named;
+use script::reading::read;
+use std::alloc::Global;
+use std::io;
+use std::io::{Read, Write};
+
+/// Makes the calls of lines on a session, and tells what comes of them.
+#[derive(Drop)]
+pub struct Caller<'a, 'b, W: Write + Drop> {
+    pub alloc: Global,
+    pub session: &'a mut Session<'b>,
+    pub notes: &'a mut Notes,
+    pub teller: &'a mut Teller<W>,
+}
+
+impl<W: Write + Drop> Caller<'_, '_, W> {
+    /// The current line of the script, and those after it.
+    pub fn call_all<R: Read + Drop>(mut self, lines: &mut ScriptLines<R>) -> io::Result<()> {
+        for _ in 0..u64::MAX {
+            if lines.is_at_end() {
+                break;
+            }
+            self.line(lines.number(), lines.current())?;
+            lines.advance()?;
+        }
+        Ok(())
+    }
+
+    // What one line says.
+    fn line(&mut self, number: u64, line: &[u8]) -> io::Result<()> {
+        match read(line) {
+            Ok(Command::Nothing) => Ok(()),
+            Ok(Command::Setup(_)) => self.teller.late_setup(number),
+            Ok(Command::Wire(length)) => {
+                let lengths = self.session.lengths().with_wire(length);
+                self.session.set_lengths(lengths);
+                Ok(())
+            }
+            Ok(Command::Buffer(length)) => {
+                let lengths = self.session.lengths().with_buffer(length);
+                self.session.set_lengths(lengths);
+                Ok(())
+            }
+            Ok(Command::Host(call)) => self.host(number, call),
+            Ok(Command::Tnc(call)) => self.tnc(number, call),
+            Err(why) => self.teller.unreadable(number, why),
+        }
+    }
+
+    // A call of the host.
+    fn host(&mut self, number: u64, call: HostCall) -> io::Result<()> {
+        let verb = call.verb().name();
+        let event = match call {
+            HostCall::Open => self.session.host_open(),
+            HostCall::Step => self.session.host_step(),
+            HostCall::Timer => self.session.host_timer(self.notes)?,
+            HostCall::Hear(bytes) => return self.host_hear(number, bytes),
+            HostCall::Submit { channel, block } => {
+                let block = block.bytes(self.alloc)?;
+                self.session.host_submit(channel, block.as_slice())
+            }
+            HostCall::Again { note, block } => {
+                let block = block.bytes(self.alloc)?;
+                self.session.host_again(self.notes, note, block.as_slice())?
+            }
+            HostCall::WriteOff { note } => host_write_off(self.notes, note),
+            HostCall::Collect { channel } => self.session.host_collect(channel),
+        };
+        self.teller.called(number, "host", verb, event)
+    }
+
+    // Each byte is one call.
+    fn host_hear(&mut self, number: u64, bytes: Hex) -> io::Result<()> {
+        for (i, byte) in bytes.bytes(self.alloc)?.iter().enumerate() {
+            if let Some(event) = self.session.host_hear(self.notes, *byte)? {
+                self.teller.heard(number, "host", i + 1, event)?;
+            }
+        }
+        Ok(())
+    }
+
+    // A call of the TNC.
+    fn tnc(&mut self, number: u64, call: TncCall) -> io::Result<()> {
+        let verb = call.verb().name();
+        let event = match call {
+            TncCall::Hear(bytes) => return self.tnc_hear(number, bytes),
+            TncCall::Submit { channel, block } => {
+                let block = block.bytes(self.alloc)?;
+                self.session.tnc_submit(channel, block.as_slice())
+            }
+            TncCall::Collect { channel } => self.session.tnc_collect(channel),
+        };
+        self.teller.called(number, "tnc", verb, event)
+    }
+
+    // Each byte is one call.
+    fn tnc_hear(&mut self, number: u64, bytes: Hex) -> io::Result<()> {
+        for (i, byte) in bytes.bytes(self.alloc)?.iter().enumerate() {
+            if let Some(event) = self.session.tnc_hear(*byte) {
+                self.teller.heard(number, "tnc", i + 1, event)?;
+            }
+        }
+        Ok(())
+    }
+}

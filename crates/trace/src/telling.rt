@@ -1,0 +1,61 @@
+// What is told: one line for each event.
+use replay::event::Event;
+use script::unreadable::Unreadable;
+use std::fmt::Display;
+use std::io;
+use std::alloc::Global;
+use std::io::{BufWriter, Write};
+use std::process::ExitCode;
+
+/// Where it is told, and whether a line could not be read.
+#[derive(Drop)]
+pub struct Teller<W: Write + Drop> {
+    out: BufWriter<W>,
+    unreadable: bool,
+}
+
+impl<W: Write + Drop> Teller<W> {
+    pub fn new(alloc: Global, out: W) -> io::Result<Teller<W>> {
+        Ok(Teller {
+            out: BufWriter::new(alloc, out)?,
+            unreadable: false,
+        })
+    }
+
+    /// One line.
+    pub fn tell(&mut self, event: impl Display + Drop) -> io::Result<()> {
+        writeln!(self.out, "{event}")
+    }
+
+    /// What a call of an end came to.
+    pub fn called(&mut self, line: u64, end: &str, verb: &str, event: Event) -> io::Result<()> {
+        writeln!(self.out, "{line} {end} {verb} {event}")
+    }
+
+    /// What a byte came to, by its place among the bytes of the line.
+    pub fn heard(&mut self, line: u64, end: &str, place: usize, event: Event) -> io::Result<()> {
+        writeln!(self.out, "{line} {end} hear byte {place} {event}")
+    }
+
+    /// A set-up that comes too late.
+    pub fn late_setup(&mut self, line: u64) -> io::Result<()> {
+        self.unreadable = true;
+        writeln!(self.out, "{line} unreadable: a set-up after the first call")
+    }
+
+    /// Why a line can't be read.
+    pub fn unreadable(&mut self, line: u64, why: Unreadable) -> io::Result<()> {
+        self.unreadable = true;
+        writeln!(self.out, "{line} unreadable: {why}")
+    }
+
+    /// The last line is told: the status of the program.
+    pub fn finish(mut self) -> io::Result<ExitCode> {
+        self.out.flush()?;
+        if self.unreadable {
+            Ok(ExitCode::FAILURE)
+        } else {
+            Ok(ExitCode::SUCCESS)
+        }
+    }
+}
