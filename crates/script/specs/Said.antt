@@ -1,5 +1,5 @@
 -- What a line says, as it stands in the line, and what a command means.
-use Rattle.std.specs.Prelude.{ℕ, ◌==◌, Bool, if◌then◌else◌, List, length, Result, Ok, Err}
+use Rattle.std.specs.Prelude.{ℕ, if◌then◌else◌, List, Result, Ok, Err}
 use Rattle.script.specs.Words.{without_comment, first_word, after_word, has_no_word}
 use Rattle.script.specs.Names.{first_name, place_name, kind_name, host_name, tnc_name, firsts, places, kinds, host_verbs, tnc_verbs, named_in}
 use Rattle.script.specs.Numbers.{number_in}

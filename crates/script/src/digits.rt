@@ -1,6 +1,8 @@
 // Bytes in hexadecimal digits.
 ghost use Rattle.std.specs.Prelude.{◌≡◌, IfOk};
 ghost use Rattle.std.specs.Result.{result_map_both};
+ghost use Rattle.std.specs.List.{list_all};
+ghost use Rattle.std.specs.Char.{is_ascii_hexdigit};
 ghost use Rattle.script.specs.Bytes.{bytes_in, bytes_of};
 
 use crate::unreadable::Unreadable;
@@ -26,7 +28,7 @@ impl<'a> Hex<'a> {
         if word.len() % 2 == 1 {
             return Err(Unreadable::OddHex);
         }
-        if !word.iter().all(|b| b.is_ascii_hexdigit()) {
+        if !is_hexadecimal(word) {
             return Err(Unreadable::NoHex);
         }
         Ok(Hex { digits: word })
@@ -38,4 +40,11 @@ impl<'a> Hex<'a> {
     {
         hex::decode(alloc, self.digits).map_err(|_| AllocError)
     }
+}
+
+// Whether all bytes are hexadecimal digits, of either case.
+fn is_hexadecimal(word: &[u8]) -> bool
+    ensures { result ≡ list_all is_ascii_hexdigit word.now }
+{
+    word.iter().all(|b| b.is_ascii_hexdigit())
 }

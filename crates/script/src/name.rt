@@ -1,5 +1,7 @@
 // The words that a script has in fixed places.
 ghost use Rattle.std.specs.Prelude.{◌≡◌, List, ℕ};
+ghost use Rattle.std.specs.List.{find};
+ghost use Rattle.std.specs.Str.{bytes_eq};
 ghost use Rattle.script.specs.Names.{first_name, place_name, kind_name, host_name, tnc_name, named_in};
 
 use crate::unreadable::Unreadable;
@@ -20,10 +22,16 @@ pub fn one_named<T: Named>(all: &[T], word: &[u8]) -> Result<T, Unreadable>
     if word.is_empty() {
         return Err(Unreadable::MissingWord);
     }
+    find_named(all, word).ok_or(Unreadable::UnknownWord)
+}
+
+// The first of all whose word it is.
+fn find_named<T: Named>(all: &[T], word: &[u8]) -> Option<T>
+    ensures { result ≡ find (λ one. bytes_eq (T.name_of one) word.now) all.now }
+{
     all.iter()
         .copied()
         .find(|one| one.name().as_bytes() == word)
-        .ok_or(Unreadable::UnknownWord)
 }
 
 /// The first word of a line.
