@@ -1,5 +1,5 @@
 // The areas of strips, and which store is chosen for a place.
-ghost use Rattle.std.specs.Prelude.{◌≡◌, vec_len};
+ghost use Rattle.std.specs.Prelude.{◌≡◌, Ok, vec_len};
 ghost use Rattle.strip.specs.Refusal.{check_answer};
 
 use crate::any_store::AnyStore;

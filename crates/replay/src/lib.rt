@@ -3,8 +3,8 @@
 
 pub mod any_store;
 pub mod area;
+pub mod buffers;
 pub mod event;
-pub mod lengths;
 pub mod notes;
 pub mod session;
 pub mod settings;

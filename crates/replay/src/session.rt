@@ -1,20 +1,17 @@
-// Both ends with their stores and buffers, and the calls of a script made on them.
+// Both ends with their stores, and the calls of a script made on them.
 use crate::any_store::AnyStore;
 use crate::event::{Bytes, Doubt, Event, Met, Sending};
-use crate::lengths::Lengths;
 use crate::notes::{Kept, Notes};
 use crate::settings::Choices;
 use ends::name::BlockName;
 use ends::refusal::Refusal;
-use frame::form::BLOCK;
 use host::answer::{Fall, Heard, Returned, Stepped, Timed};
 use host::host::Host;
 use std::alloc::AllocError;
 use tnc::answer::Heard as Answered;
 use tnc::tnc::Tnc;
-use wire::writer::WIRE;
 
-/// The two ends, each with its stores, and the buffers that calls are given.
+/// The two ends, each with its stores.
 #[derive(Drop)]
 pub struct Session<'a> {
     host: Host,
@@ -23,14 +20,11 @@ pub struct Session<'a> {
     host_in: AnyStore<'a>,
     tnc_out: AnyStore<'a>,
     tnc_in: AnyStore<'a>,
-    wire: [u8; WIRE],
-    buffer: [u8; BLOCK],
-    lengths: Lengths,
 }
 
 impl<'a> Session<'a> {
     /// The ends before the first call, on the stores that were chosen.
-    pub fn new(host: Host, choices: &'a mut Choices, lengths: Lengths) -> Session<'a> {
+    pub fn new(host: Host, choices: &'a mut Choices) -> Session<'a> {
         let Choices {
             host_out,
             host_in,
@@ -44,9 +38,6 @@ impl<'a> Session<'a> {
             host_in: host_in.store(),
             tnc_out: tnc_out.store(),
             tnc_in: tnc_in.store(),
-            wire: [0; WIRE],
-            buffer: [0; BLOCK],
-            lengths,
         }
     }
 
@@ -58,33 +49,25 @@ impl<'a> Session<'a> {
         &self.tnc
     }
 
-    /// How long the buffers of later calls are.
-    pub fn set_lengths(&mut self, lengths: Lengths) {
-        self.lengths = lengths;
-    }
-
-    pub fn lengths(&self) -> Lengths {
-        self.lengths
-    }
-
-    pub fn host_open(&mut self) -> Event<'_> {
-        let wire = &mut self.wire[..self.lengths.wire()];
+    pub fn host_open<'b>(&mut self, wire: &'b mut [u8]) -> Event<'b> {
         match self.host.open(wire) {
             Ok(sent) => Event::Sent(Sending::Open, Bytes(&wire[..sent])),
             Err(refusal) => Event::Refused(refusal),
         }
     }
 
-    pub fn host_step(&mut self) -> Event<'_> {
-        let wire = &mut self.wire[..self.lengths.wire()];
+    pub fn host_step<'b>(&mut self, wire: &'b mut [u8]) -> Event<'b> {
         match self.host.step(&self.host_out, wire) {
             Ok(Stepped { rule, sent }) => Event::Sent(Sending::Step(rule), Bytes(&wire[..sent])),
             Err(refusal) => Event::Refused(refusal),
         }
     }
 
-    pub fn host_timer(&mut self, notes: &mut Notes) -> Result<Event<'_>, AllocError> {
-        let wire = &mut self.wire[..self.lengths.wire()];
+    pub fn host_timer<'b>(
+        &mut self,
+        notes: &mut Notes,
+        wire: &'b mut [u8],
+    ) -> Result<Event<'b>, AllocError> {
         match self.host.timer(&mut self.host_out, wire) {
             Ok(Timed::Repeated(sent)) => Ok(Event::Sent(Sending::Repeat, Bytes(&wire[..sent]))),
             Ok(Timed::Down(fall)) => down(notes, fall),
@@ -96,7 +79,7 @@ impl<'a> Session<'a> {
         &mut self,
         notes: &mut Notes,
         byte: u8,
-    ) -> Result<Option<Event<'_>>, AllocError> {
+    ) -> Result<Option<Event<'static>>, AllocError> {
         match self.host.hear(&mut self.host_out, &mut self.host_in, byte) {
             Ok(None) => Ok(None),
             Ok(Some(heard)) => Ok(Some(host_event(notes, heard)?)),
@@ -104,7 +87,7 @@ impl<'a> Session<'a> {
         }
     }
 
-    pub fn host_submit(&mut self, channel: u64, block: &[u8]) -> Event<'_> {
+    pub fn host_submit(&mut self, channel: u64, block: &[u8]) -> Event<'static> {
         numbered(
             self.host
                 .submit(&mut self.host_out, channel_byte(channel), block),
@@ -116,7 +99,7 @@ impl<'a> Session<'a> {
         notes: &mut Notes,
         number: u64,
         block: &[u8],
-    ) -> Result<Event<'_>, AllocError> {
+    ) -> Result<Event<'static>, AllocError> {
         let Some(Kept { number, note }) = notes.take(number) else {
             return Ok(Event::NoNote(number));
         };
@@ -129,8 +112,7 @@ impl<'a> Session<'a> {
         }
     }
 
-    pub fn host_collect(&mut self, channel: u64) -> Event<'_> {
-        let buffer = &mut self.buffer[..self.lengths.buffer()];
+    pub fn host_collect<'b>(&mut self, channel: u64, buffer: &'b mut [u8]) -> Event<'b> {
         match self
             .host
             .collect(&mut self.host_in, channel_byte(channel), buffer)
@@ -140,8 +122,7 @@ impl<'a> Session<'a> {
         }
     }
 
-    pub fn tnc_hear(&mut self, byte: u8) -> Option<Event<'_>> {
-        let wire = &mut self.wire[..self.lengths.wire()];
+    pub fn tnc_hear<'b>(&mut self, byte: u8, wire: &'b mut [u8]) -> Option<Event<'b>> {
         match self
             .tnc
             .hear(&mut self.tnc_out, &mut self.tnc_in, byte, wire)
@@ -154,15 +135,14 @@ impl<'a> Session<'a> {
         }
     }
 
-    pub fn tnc_submit(&mut self, channel: u64, block: &[u8]) -> Event<'_> {
+    pub fn tnc_submit(&mut self, channel: u64, block: &[u8]) -> Event<'static> {
         numbered(
             self.tnc
                 .submit(&mut self.tnc_out, channel_byte(channel), block),
         )
     }
 
-    pub fn tnc_collect(&mut self, channel: u64) -> Event<'_> {
-        let buffer = &mut self.buffer[..self.lengths.buffer()];
+    pub fn tnc_collect<'b>(&mut self, channel: u64, buffer: &'b mut [u8]) -> Event<'b> {
         match self
             .tnc
             .collect(&mut self.tnc_in, channel_byte(channel), buffer)

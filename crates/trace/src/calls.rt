@@ -1,6 +1,7 @@
 // The calls of a script, made one after the other.
 use crate::script_lines::ScriptLines;
 use crate::telling::Teller;
+use replay::buffers::Buffers;
 use replay::notes::Notes;
 use replay::session::{Session, host_write_off};
 use script::command::{Command, HostCall, TncCall};
@@ -22,45 +23,47 @@ pub struct Caller<'a, 'b, W: Write + Drop> {
 
 impl<W: Write + Drop> Caller<'_, '_, W> {
     /// The current line of the script, and those after it.
-    pub fn call_all<R: Read + Drop>(mut self, lines: &mut ScriptLines<R>) -> io::Result<()> {
+    pub fn call_all<R: Read + Drop>(
+        mut self,
+        lines: &mut ScriptLines<R>,
+        buffers: &mut Buffers,
+    ) -> io::Result<()> {
         for _ in 0..u64::MAX {
             if lines.is_at_end() {
                 break;
             }
-            self.line(lines.number(), lines.current())?;
+            self.line(buffers, lines.number(), lines.current())?;
             lines.advance()?;
         }
         Ok(())
     }
 
     // What one line says.
-    fn line(&mut self, number: u64, line: &[u8]) -> io::Result<()> {
+    fn line(&mut self, buffers: &mut Buffers, number: u64, line: &[u8]) -> io::Result<()> {
         match read(line) {
             Ok(Command::Nothing) => Ok(()),
             Ok(Command::Setup(_)) => self.teller.late_setup(number),
             Ok(Command::Wire(length)) => {
-                let lengths = self.session.lengths().with_wire(length);
-                self.session.set_lengths(lengths);
+                buffers.set_wire(length);
                 Ok(())
             }
             Ok(Command::Buffer(length)) => {
-                let lengths = self.session.lengths().with_buffer(length);
-                self.session.set_lengths(lengths);
+                buffers.set_block(length);
                 Ok(())
             }
-            Ok(Command::Host(call)) => self.host(number, call),
-            Ok(Command::Tnc(call)) => self.tnc(number, call),
+            Ok(Command::Host(call)) => self.host(buffers, number, call),
+            Ok(Command::Tnc(call)) => self.tnc(buffers, number, call),
             Err(why) => self.teller.unreadable(number, why),
         }
     }
 
     // A call of the host.
-    fn host(&mut self, number: u64, call: HostCall) -> io::Result<()> {
+    fn host(&mut self, buffers: &mut Buffers, number: u64, call: HostCall) -> io::Result<()> {
         let verb = call.verb().name();
         let event = match call {
-            HostCall::Open => self.session.host_open(),
-            HostCall::Step => self.session.host_step(),
-            HostCall::Timer => self.session.host_timer(self.notes)?,
+            HostCall::Open => self.session.host_open(buffers.wire()),
+            HostCall::Step => self.session.host_step(buffers.wire()),
+            HostCall::Timer => self.session.host_timer(self.notes, buffers.wire())?,
             HostCall::Hear(bytes) => return self.host_hear(number, bytes),
             HostCall::Submit { channel, block } => {
                 let block = block.bytes(self.alloc)?;
@@ -71,7 +74,7 @@ impl<W: Write + Drop> Caller<'_, '_, W> {
                 self.session.host_again(self.notes, note, block.as_slice())?
             }
             HostCall::WriteOff { note } => host_write_off(self.notes, note),
-            HostCall::Collect { channel } => self.session.host_collect(channel),
+            HostCall::Collect { channel } => self.session.host_collect(channel, buffers.block()),
         };
         self.teller.called(number, "host", verb, event)
     }
@@ -87,23 +90,23 @@ impl<W: Write + Drop> Caller<'_, '_, W> {
     }
 
     // A call of the TNC.
-    fn tnc(&mut self, number: u64, call: TncCall) -> io::Result<()> {
+    fn tnc(&mut self, buffers: &mut Buffers, number: u64, call: TncCall) -> io::Result<()> {
         let verb = call.verb().name();
         let event = match call {
-            TncCall::Hear(bytes) => return self.tnc_hear(number, bytes),
+            TncCall::Hear(bytes) => return self.tnc_hear(buffers, number, bytes),
             TncCall::Submit { channel, block } => {
                 let block = block.bytes(self.alloc)?;
                 self.session.tnc_submit(channel, block.as_slice())
             }
-            TncCall::Collect { channel } => self.session.tnc_collect(channel),
+            TncCall::Collect { channel } => self.session.tnc_collect(channel, buffers.block()),
         };
         self.teller.called(number, "tnc", verb, event)
     }
 
     // Each byte is one call.
-    fn tnc_hear(&mut self, number: u64, bytes: Hex) -> io::Result<()> {
+    fn tnc_hear(&mut self, buffers: &mut Buffers, number: u64, bytes: Hex) -> io::Result<()> {
         for (i, byte) in bytes.bytes(self.alloc)?.iter().enumerate() {
-            if let Some(event) = self.session.tnc_hear(*byte) {
+            if let Some(event) = self.session.tnc_hear(*byte, buffers.wire()) {
                 self.teller.heard(number, "tnc", i + 1, event)?;
             }
         }

@@ -10,7 +10,7 @@ use crate::calls::Caller;
 use crate::closing::{close, settle};
 use crate::script_lines::ScriptLines;
 use crate::telling::Teller;
-use replay::lengths::Lengths;
+use replay::buffers::Buffers;
 use replay::notes::Notes;
 use replay::session::Session;
 use replay::settings::{Settings, SetupError};
@@ -37,18 +37,18 @@ fn run<R: Read + Drop, W: Write + Drop>(
 ) -> io::Result<ExitCode> {
     let mut lines = ScriptLines::new(alloc, reader)?;
     let mut teller = Teller::new(alloc, writer)?;
-    let mut lengths = Lengths::new();
+    let mut buffers = Buffers::new();
     let mut settings = Settings::new();
-    set_up(alloc, &mut lines, &mut teller, &mut lengths, &mut settings)?;
+    set_up(alloc, &mut lines, &mut teller, &mut buffers, &mut settings)?;
     let Settings { host, mut choices } = settings;
-    let mut session = Session::new(host, &mut choices, lengths);
+    let mut session = Session::new(host, &mut choices);
     Caller {
         alloc,
         session: &mut session,
         notes: &mut *notes,
         teller: &mut teller,
     }
-    .call_all(&mut lines)?;
+    .call_all(&mut lines, &mut buffers)?;
     close(&session, &mut teller)?;
     settle(notes, &mut teller)?;
     teller.finish()
@@ -59,7 +59,7 @@ fn set_up<R: Read + Drop, W: Write + Drop>(
     alloc: Global,
     lines: &mut ScriptLines<R>,
     teller: &mut Teller<W>,
-    lengths: &mut Lengths,
+    buffers: &mut Buffers,
     settings: &mut Settings,
 ) -> io::Result<()> {
     for _ in 0..u64::MAX {
@@ -69,8 +69,8 @@ fn set_up<R: Read + Drop, W: Write + Drop>(
         match read(lines.current()) {
             Ok(Command::Nothing) => {}
             Ok(Command::Setup(setup)) => set(alloc, teller, settings, setup)?,
-            Ok(Command::Wire(length)) => *lengths = lengths.with_wire(length),
-            Ok(Command::Buffer(length)) => *lengths = lengths.with_buffer(length),
+            Ok(Command::Wire(length)) => buffers.set_wire(length),
+            Ok(Command::Buffer(length)) => buffers.set_block(length),
             Ok(Command::Host(_) | Command::Tnc(_)) => break,
             Err(why) => teller.unreadable(lines.number(), why)?,
         }
