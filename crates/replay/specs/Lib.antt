@@ -1,1 +1,4 @@
 pub mod AnyStore
+pub mod Event
+pub mod Notes
+pub mod Told

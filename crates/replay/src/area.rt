@@ -3,6 +3,7 @@ ghost use Rattle.std.specs.Prelude.{◌≡◌, Ok, vec_len};
 ghost use Rattle.strip.specs.Refusal.{check_answer};
 
 use crate::any_store::AnyStore;
+use crate::buffers::at_most;
 use shelf::Shelf;
 use std::alloc::{AllocError, Global};
 use strip::refusal::{AreaRefusal, check};
@@ -44,10 +45,7 @@ impl From<AllocError> for AreaError {
 impl Area {
     /// An area of so many bytes, all of them 0. Of a length that no strip has, one byte more than the longest is enough to see that.
     pub fn new(alloc: Global, length: u64) -> Result<Area, AreaError> {
-        let length = usize::try_from(length)
-            .unwrap_or(usize::MAX)
-            .min(LONGEST_AREA + 1);
-        let bytes = vec![in alloc; 0; length]?;
+        let bytes = vec![in alloc; 0; at_most(length, LONGEST_AREA + 1)]?;
         check(bytes.as_slice())?;
         Ok(Area { bytes })
     }

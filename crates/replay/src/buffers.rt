@@ -1,53 +1,55 @@
 // The buffers that calls are given.
-ghost use Rattle.std.specs.Prelude.{◌≡◌, ◌≤◌, length};
+ghost use Rattle.std.specs.Prelude.{◌≡◌, IfOk, OnOk, min, vec_len};
 ghost use Rattle.wire.specs.Wire.{longest_wire};
 ghost use Rattle.frame.specs.Frame.{longest_block};
 
 use frame::form::BLOCK;
+use std::alloc::{AllocError, Global};
 use wire::writer::WIRE;
 
-/// A wire and a block buffer, of which calls are given so many bytes. No call makes anything of more bytes than it needs,
-/// so a longer buffer is given as the shortest that is not refused.
+/// A wire and a block buffer. No call makes anything of more bytes than it needs, so a longer buffer is made as long as the
+/// shortest that is not refused.
 #[derive(Drop)]
 pub struct Buffers {
-    wire: [u8; WIRE],
-    wire_length: usize,
-    block: [u8; BLOCK],
-    block_length: usize,
-    ghost wire_fits: { wire_length ≤ longest_wire },
-    ghost block_fits: { block_length ≤ longest_block },
+    pub wire: Vec<u8>,
+    pub block: Vec<u8>,
 }
 
 impl Buffers {
     /// As long as calls need them.
-    pub fn new() -> Buffers {
-        Buffers {
-            wire: [0; WIRE],
-            wire_length: WIRE,
-            block: [0; BLOCK],
-            block_length: BLOCK,
-        }
+    pub fn new(alloc: Global) -> Result<Buffers, AllocError>
+        ensures wire { IfOk result (λ b. vec_len b.wire ≡ longest_wire) }
+        ensures block { IfOk result (λ b. vec_len b.block ≡ longest_block) }
+    {
+        Ok(Buffers {
+            wire: vec![in alloc; 0; WIRE]?,
+            block: vec![in alloc; 0; BLOCK]?,
+        })
     }
 
-    /// How many bytes of the wire buffer later calls are given.
-    pub fn set_wire(&mut self, length: u64) {
-        self.wire_length = usize::try_from(length).unwrap_or(usize::MAX).min(WIRE);
+    /// Later calls are given a wire buffer of so many bytes.
+    pub fn set_wire(&mut self, length: u64) -> Result<(), AllocError>
+        ensures wire { OnOk result (vec_len self.new.wire ≡ min length longest_wire) }
+        ensures block { self.new.block ≡ self.old.block }
+    {
+        self.wire.resize(at_most(length, WIRE), 0)
     }
 
-    /// How many bytes of the block buffer later calls are given.
-    pub fn set_block(&mut self, length: u64) {
-        self.block_length = usize::try_from(length).unwrap_or(usize::MAX).min(BLOCK);
+    /// Later calls are given a block buffer of so many bytes.
+    pub fn set_block(&mut self, length: u64) -> Result<(), AllocError>
+        ensures block { OnOk result (vec_len self.new.block ≡ min length longest_block) }
+        ensures wire { self.new.wire ≡ self.old.wire }
+    {
+        self.block.resize(at_most(length, BLOCK), 0)
     }
+}
 
-    /// The wire buffer.
-    pub fn wire(&mut self) -> &mut [u8] {
-        let length = self.wire_length;
-        &mut self.wire[..length]
-    }
-
-    /// The block buffer.
-    pub fn block(&mut self) -> &mut [u8] {
-        let length = self.block_length;
-        &mut self.block[..length]
+/// A length as a number of bytes, but no more than so many.
+pub fn at_most(length: u64, most: usize) -> usize
+    ensures { result ≡ min length most }
+{
+    match usize::try_from(length) {
+        Ok(length) => length.min(most),
+        Err(_) => most,
     }
 }

@@ -1,4 +1,8 @@
 // The doubt notes that are not spent yet, by the numbers that they got as they were handed out.
+ghost use Rattle.std.specs.Prelude.{◌≡◌, ◌<◌, [], ◌∷◌, ◌++◌, drop, insert, is_ok, nat_lt, if◌then◌else◌, IfOk, OnOk, OnErr, slice_get, vec_len};
+ghost use Rattle.std.specs.List.{position_or_len};
+ghost use Rattle.replay.specs.Notes.{next_number, note_of, TakesOut};
+
 use host::note::DoubtNote;
 use std::alloc::{AllocError, AllocFailed, Global};
 
@@ -17,7 +21,10 @@ pub struct Notes {
 
 impl Notes {
     /// No note was handed out.
-    pub fn new(alloc: Global) -> Notes {
+    pub fn new(alloc: Global) -> Notes
+        ensures kept { result.kept.items ≡ [] }
+        ensures handed { result.handed ≡ 0 }
+    {
         Notes {
             kept: Vec::new(alloc),
             handed: 0,
@@ -25,7 +32,11 @@ impl Notes {
     }
 
     /// Keeps a note that is handed out now, and answers its number. Where there is no memory to keep it, it is written off.
-    pub fn keep(&mut self, note: DoubtNote) -> Result<u64, AllocError> {
+    pub fn keep(&mut self, note: DoubtNote) -> Result<u64, AllocError>
+        ensures number { IfOk result (λ n. n ≡ next_number self.old) }
+        ensures handed { self.new.handed ≡ next_number self.old }
+        ensures kept { self.new.kept.items ≡ (if is_ok result then self.old.kept.items ++ record { number = next_number self.old; note = note } ∷ [] else self.old.kept.items) }
+    {
         self.handed = self.handed.saturating_add(1);
         let number = self.handed;
         match self.kept.push(Kept { number, note }) {
@@ -35,13 +46,21 @@ impl Notes {
     }
 
     /// The note of a number, if it is not spent. It is the caller's now.
-    pub fn take(&mut self, number: u64) -> Option<Kept> {
+    pub fn take(&mut self, number: u64) -> Option<Kept>
+        ensures value { result ≡ note_of number self.old.kept.items }
+        ensures rest { TakesOut number self.old.kept.items self.new.kept.items }
+        ensures handed { self.new.handed ≡ self.old.handed }
+    {
         let i = self.kept.iter().position(|kept| kept.number == number)?;
         Some(self.kept.remove(i))
     }
 
     /// Takes back a note that was not spent. Where there is no memory to keep it, it is written off.
-    pub fn put_back(&mut self, kept: Kept) -> Result<(), AllocError> {
+    pub fn put_back(&mut self, kept: Kept) -> Result<(), AllocError>
+        ensures ok { OnOk result (self.new.kept.items ≡ insert self.old.kept.items (position_or_len (λ k. nat_lt kept.number k.number) self.old.kept.items) kept) }
+        ensures err { OnErr result (self.new.kept.items ≡ self.old.kept.items) }
+        ensures handed { self.new.handed ≡ self.old.handed }
+    {
         let number = kept.number;
         let i = self
             .kept
@@ -55,7 +74,11 @@ impl Notes {
     }
 
     /// The oldest note that is not spent, if there is one. It is the caller's now.
-    pub fn oldest(&mut self) -> Option<Kept> {
+    pub fn oldest(&mut self) -> Option<Kept>
+        ensures value { result ≡ slice_get self.old.kept.items 0 }
+        ensures rest { self.new.kept.items ≡ drop 1 self.old.kept.items }
+        ensures handed { self.new.handed ≡ self.old.handed }
+    {
         if self.kept.is_empty() {
             return None;
         }

@@ -1,19 +1,41 @@
-// Both ends with their stores, and the calls of a script made on them.
+// Both ends with their stores, and the calls of a script made on them. What a call tells is what the end answers, by the
+// definitions in specs/Told.antt, and it changes what the end's own call changes.
+ghost use Rattle.std.specs.Prelude.{◌≡◌, min, length, IfOk, MatchOption};
+ghost use Rattle.std.specs.Option.{option_map};
+ghost use Rattle.store.specs.Meaning.{Meaning, plain};
+ghost use Rattle.reader.specs.Read.{hears};
+ghost use Rattle.ends.specs.Ear.{heard_by};
+ghost use Rattle.ends.specs.Blocks.{submit_answer, submit_counts, submit_store, collect_answer, collect_store};
+ghost use Rattle.ends.specs.Host.{open_call, step_call, timer_call, host_counts};
+ghost use Rattle.ends.specs.Tnc.{tnc_counts};
+ghost use Rattle.host.specs.Model.{host_of};
+ghost use Rattle.host.specs.Answers.{open_answer, step_answer, timer_answer};
+ghost use Rattle.host.specs.Hear.{hear_answer, hear_call};
+ghost use Rattle.host.specs.Left.{Left, Stands};
+ghost use Rattle.tnc.specs.Model.{tnc_of};
+ghost use Rattle.tnc.specs.Hear as tnc_rules;
+ghost use Rattle.tnc.specs.Left as tnc_left;
+ghost use Rattle.replay.specs.AnyStore.{meaning_of};
+ghost use Rattle.replay.specs.Event.{event_words};
+ghost use Rattle.replay.specs.Notes.{next_number, note_of};
+ghost use Rattle.replay.specs.Told.{sent_words, collected_words, fall_words, heard_words, open_told, step_told, timer_told, hear_told, tnc_told, submit_told, collect_told, no_note_words, written_off_words};
+
 use crate::any_store::AnyStore;
-use crate::event::{Bytes, Doubt, Event, Met, Sending};
+use crate::event::{Doubt, Event, Met, Sending};
 use crate::notes::{Kept, Notes};
 use crate::settings::Choices;
 use ends::name::BlockName;
 use ends::refusal::Refusal;
 use host::answer::{Fall, Heard, Returned, Stepped, Timed};
 use host::host::Host;
-use std::alloc::AllocError;
+use std::alloc::{AllocError, Global};
 use tnc::answer::Heard as Answered;
 use tnc::tnc::Tnc;
 
 /// The two ends, each with its stores.
 #[derive(Drop)]
 pub struct Session<'a> {
+    alloc: Global,
     host: Host,
     tnc: Tnc,
     host_out: AnyStore<'a>,
@@ -24,7 +46,7 @@ pub struct Session<'a> {
 
 impl<'a> Session<'a> {
     /// The ends before the first call, on the stores that were chosen.
-    pub fn new(host: Host, choices: &'a mut Choices) -> Session<'a> {
+    pub fn new(alloc: Global, host: Host, choices: &'a mut Choices) -> Session<'a> {
         let Choices {
             host_out,
             host_in,
@@ -32,6 +54,7 @@ impl<'a> Session<'a> {
             tnc_in,
         } = choices;
         Session {
+            alloc,
             host,
             tnc: Tnc::new(),
             host_out: host_out.store(),
@@ -41,35 +64,48 @@ impl<'a> Session<'a> {
         }
     }
 
-    pub fn host(&self) -> &Host {
+    pub fn host(&self) -> &Host
+        ensures { result.now ≡ self.now.host }
+    {
         &self.host
     }
 
-    pub fn tnc(&self) -> &Tnc {
+    pub fn tnc(&self) -> &Tnc
+        ensures { result.now ≡ self.now.tnc }
+    {
         &self.tnc
     }
 
-    pub fn host_open<'b>(&mut self, wire: &'b mut [u8]) -> Event<'b> {
+    pub fn host_open(&mut self, wire: &mut [u8]) -> Result<Event, AllocError>
+        ensures told { IfOk result (λ e. event_words e ≡ open_told (open_answer (host_of self.old.host.link) (length wire.old)) wire.new) }
+        ensures after { (out inn : Meaning) → Left (open_call (length wire.old) (host_of self.old.host.link) out inn) self.old.host self.new.host out inn wire.old wire.new }
+    {
         match self.host.open(wire) {
-            Ok(sent) => Event::Sent(Sending::Open, Bytes(&wire[..sent])),
-            Err(refusal) => Event::Refused(refusal),
+            Ok(sent) => self.sent(Sending::Open, &wire[..sent]),
+            Err(refusal) => Ok(Event::Refused(refusal)),
         }
     }
 
-    pub fn host_step<'b>(&mut self, wire: &'b mut [u8]) -> Event<'b> {
+    pub fn host_step(&mut self, wire: &mut [u8]) -> Result<Event, AllocError>
+        ensures told { IfOk result (λ e. event_words e ≡ step_told (step_answer (host_of self.old.host.link) (meaning_of self.old.host_out) (length wire.old)) wire.new) }
+        ensures after { (inn : Meaning) → Left (step_call (length wire.old) (host_of self.old.host.link) (meaning_of self.old.host_out) inn) self.old.host self.new.host (meaning_of self.old.host_out) inn wire.old wire.new }
+    {
         match self.host.step(&self.host_out, wire) {
-            Ok(Stepped { rule, sent }) => Event::Sent(Sending::Step(rule), Bytes(&wire[..sent])),
-            Err(refusal) => Event::Refused(refusal),
+            Ok(Stepped { rule, sent }) => self.sent(Sending::Step(rule), &wire[..sent]),
+            Err(refusal) => Ok(Event::Refused(refusal)),
         }
     }
 
-    pub fn host_timer<'b>(
+    pub fn host_timer(
         &mut self,
         notes: &mut Notes,
-        wire: &'b mut [u8],
-    ) -> Result<Event<'b>, AllocError> {
+        wire: &mut [u8],
+    ) -> Result<Event, AllocError>
+        ensures told { IfOk result (λ e. event_words e ≡ timer_told (timer_answer (host_of self.old.host.link) (length wire.old)) (next_number notes.old) wire.new) }
+        ensures after { (inn : Meaning) → Left (timer_call (length wire.old) (host_of self.old.host.link) (meaning_of self.old.host_out) inn) self.old.host self.new.host (meaning_of self.new.host_out) inn wire.old wire.new }
+    {
         match self.host.timer(&mut self.host_out, wire) {
-            Ok(Timed::Repeated(sent)) => Ok(Event::Sent(Sending::Repeat, Bytes(&wire[..sent]))),
+            Ok(Timed::Repeated(sent)) => self.sent(Sending::Repeat, &wire[..sent]),
             Ok(Timed::Down(fall)) => down(notes, fall),
             Err(refusal) => Ok(Event::Refused(refusal)),
         }
@@ -79,7 +115,11 @@ impl<'a> Session<'a> {
         &mut self,
         notes: &mut Notes,
         byte: u8,
-    ) -> Result<Option<Event<'static>>, AllocError> {
+    ) -> Result<Option<Event>, AllocError>
+        ensures told { IfOk result (λ o. option_map event_words o ≡ hear_told (hear_answer (hears (heard_by self.old.host.ear) byte) (host_of self.old.host.link) (meaning_of self.old.host_out) (meaning_of self.old.host_in)) (next_number notes.old)) }
+        ensures after { Stands (hear_call (hears (heard_by self.old.host.ear) byte) (host_of self.old.host.link) (meaning_of self.old.host_out) (meaning_of self.old.host_in)) (host_of self.new.host.link) (meaning_of self.new.host_out) (meaning_of self.new.host_in) }
+        ensures ear { heard_by self.new.host.ear ≡ (hears (heard_by self.old.host.ear) byte).then }
+    {
         match self.host.hear(&mut self.host_out, &mut self.host_in, byte) {
             Ok(None) => Ok(None),
             Ok(Some(heard)) => Ok(Some(host_event(notes, heard)?)),
@@ -87,11 +127,13 @@ impl<'a> Session<'a> {
         }
     }
 
-    pub fn host_submit(&mut self, channel: u64, block: &[u8]) -> Event<'static> {
-        numbered(
-            self.host
-                .submit(&mut self.host_out, channel_byte(channel), block),
-        )
+    pub fn host_submit(&mut self, channel: u64, block: &[u8]) -> Event
+        ensures told { event_words result ≡ submit_told (submit_answer (host_of self.old.host.link).submitted (meaning_of self.old.host_out) (min channel 255) (plain block.now)) }
+        ensures after { host_of self.new.host.link ≡ host_counts (host_of self.old.host.link) (submit_counts (host_of self.old.host.link).submitted (meaning_of self.old.host_out) (min channel 255) (plain block.now)) }
+        ensures out { meaning_of self.new.host_out ≡ submit_store (host_of self.old.host.link).submitted (meaning_of self.old.host_out) (min channel 255) (plain block.now) }
+    {
+        let channel = channel_byte(channel);
+        numbered(self.host.submit(&mut self.host_out, channel, block))
     }
 
     pub fn host_again(
@@ -99,7 +141,9 @@ impl<'a> Session<'a> {
         notes: &mut Notes,
         number: u64,
         block: &[u8],
-    ) -> Result<Event<'static>, AllocError> {
+    ) -> Result<Event, AllocError>
+        ensures told { IfOk result (λ e. MatchOption (note_of number notes.old.kept.items) (event_words e ≡ no_note_words number) (λ k. event_words e ≡ submit_told (submit_answer (host_of self.old.host.link).submitted (meaning_of self.old.host_out) k.note.channel (plain block.now)))) }
+    {
         let Some(Kept { number, note }) = notes.take(number) else {
             return Ok(Event::NoNote(number));
         };
@@ -112,49 +156,81 @@ impl<'a> Session<'a> {
         }
     }
 
-    pub fn host_collect<'b>(&mut self, channel: u64, buffer: &'b mut [u8]) -> Event<'b> {
-        match self
-            .host
-            .collect(&mut self.host_in, channel_byte(channel), buffer)
-        {
-            Ok(len) => Event::Block(Bytes(&buffer[..len])),
-            Err(refusal) => Event::Refused(refusal),
+    pub fn host_collect(
+        &mut self,
+        channel: u64,
+        buffer: &mut [u8],
+    ) -> Result<Event, AllocError>
+        ensures told { IfOk result (λ e. event_words e ≡ collect_told (collect_answer (meaning_of self.old.host_in) (min channel 255) (length buffer.old)) buffer.new) }
+        ensures inn { meaning_of self.new.host_in ≡ collect_store (meaning_of self.old.host_in) (min channel 255) (length buffer.old) }
+    {
+        let channel = channel_byte(channel);
+        match self.host.collect(&mut self.host_in, channel, buffer) {
+            Ok(len) => self.collected(&buffer[..len]),
+            Err(refusal) => Ok(Event::Refused(refusal)),
         }
     }
 
-    pub fn tnc_hear<'b>(&mut self, byte: u8, wire: &'b mut [u8]) -> Option<Event<'b>> {
+    pub fn tnc_hear(&mut self, byte: u8, wire: &mut [u8]) -> Result<Option<Event>, AllocError>
+        ensures told { IfOk result (λ o. option_map event_words o ≡ tnc_told (tnc_rules.hear_answer (length wire.old) (hears (heard_by self.old.tnc.ear) byte) (tnc_of self.old.tnc.link) (meaning_of self.old.tnc_out) (meaning_of self.old.tnc_in)) wire.new) }
+        ensures after { tnc_left.Left (tnc_rules.hear_call (length wire.old) (hears (heard_by self.old.tnc.ear) byte) (tnc_of self.old.tnc.link) (meaning_of self.old.tnc_out) (meaning_of self.old.tnc_in)) (tnc_of self.new.tnc.link) (meaning_of self.new.tnc_out) (meaning_of self.new.tnc_in) wire.old wire.new }
+    {
         match self
             .tnc
             .hear(&mut self.tnc_out, &mut self.tnc_in, byte, wire)
         {
-            Ok(None) => None,
+            Ok(None) => Ok(None),
             Ok(Some(Answered { rule, went, sent })) => {
-                Some(Event::Answered(rule, went, Bytes(&wire[..sent])))
+                let bytes = hex::encode_upper(self.alloc, &wire[..sent])?;
+                Ok(Some(Event::Answered(rule, went, bytes)))
             }
-            Err(refusal) => Some(Event::Refused(refusal)),
+            Err(refusal) => Ok(Some(Event::Refused(refusal))),
         }
     }
 
-    pub fn tnc_submit(&mut self, channel: u64, block: &[u8]) -> Event<'static> {
-        numbered(
-            self.tnc
-                .submit(&mut self.tnc_out, channel_byte(channel), block),
-        )
+    pub fn tnc_submit(&mut self, channel: u64, block: &[u8]) -> Event
+        ensures told { event_words result ≡ submit_told (submit_answer (tnc_of self.old.tnc.link).submitted (meaning_of self.old.tnc_out) (min channel 255) (plain block.now)) }
+        ensures after { tnc_of self.new.tnc.link ≡ tnc_counts (tnc_of self.old.tnc.link) (submit_counts (tnc_of self.old.tnc.link).submitted (meaning_of self.old.tnc_out) (min channel 255) (plain block.now)) }
+        ensures out { meaning_of self.new.tnc_out ≡ submit_store (tnc_of self.old.tnc.link).submitted (meaning_of self.old.tnc_out) (min channel 255) (plain block.now) }
+    {
+        let channel = channel_byte(channel);
+        numbered(self.tnc.submit(&mut self.tnc_out, channel, block))
     }
 
-    pub fn tnc_collect<'b>(&mut self, channel: u64, buffer: &'b mut [u8]) -> Event<'b> {
-        match self
-            .tnc
-            .collect(&mut self.tnc_in, channel_byte(channel), buffer)
-        {
-            Ok(len) => Event::Block(Bytes(&buffer[..len])),
-            Err(refusal) => Event::Refused(refusal),
+    pub fn tnc_collect(
+        &mut self,
+        channel: u64,
+        buffer: &mut [u8],
+    ) -> Result<Event, AllocError>
+        ensures told { IfOk result (λ e. event_words e ≡ collect_told (collect_answer (meaning_of self.old.tnc_in) (min channel 255) (length buffer.old)) buffer.new) }
+        ensures inn { meaning_of self.new.tnc_in ≡ collect_store (meaning_of self.old.tnc_in) (min channel 255) (length buffer.old) }
+    {
+        let channel = channel_byte(channel);
+        match self.tnc.collect(&mut self.tnc_in, channel, buffer) {
+            Ok(len) => self.collected(&buffer[..len]),
+            Err(refusal) => Ok(Event::Refused(refusal)),
         }
+    }
+
+    // A frame that the host sent.
+    fn sent(&self, sending: Sending, bytes: &[u8]) -> Result<Event, AllocError>
+        ensures { IfOk result (λ e. event_words e ≡ sent_words sending bytes.now) }
+    {
+        Ok(Event::Sent(sending, hex::encode_upper(self.alloc, bytes)?))
+    }
+
+    // A block that was collected.
+    fn collected(&self, bytes: &[u8]) -> Result<Event, AllocError>
+        ensures { IfOk result (λ e. event_words e ≡ collected_words bytes.now) }
+    {
+        Ok(Event::Block(hex::encode_upper(self.alloc, bytes)?))
     }
 }
 
 /// Spends a note, if there is one of the number.
-pub fn host_write_off(notes: &mut Notes, number: u64) -> Event<'static> {
+pub fn host_write_off(notes: &mut Notes, number: u64) -> Event
+    ensures { MatchOption (note_of number notes.old.kept.items) (event_words result ≡ no_note_words number) (λ _. event_words result ≡ written_off_words) }
+{
     match notes.take(number) {
         Some(kept) => {
             kept.write_off();
@@ -164,13 +240,20 @@ pub fn host_write_off(notes: &mut Notes, number: u64) -> Event<'static> {
     }
 }
 
-// The channel that a call is given. A number above 255 is no byte; 255 is no channel either.
-fn channel_byte(channel: u64) -> u8 {
-    u8::try_from(channel).unwrap_or(u8::MAX)
+// The channel that a call is given. A number above 255 is no byte; it is refused as 255 is, which is no channel either.
+fn channel_byte(channel: u64) -> u8
+    ensures { result ≡ min channel 255 }
+{
+    match u8::try_from(channel) {
+        Ok(channel) => channel,
+        Err(_) => u8::MAX,
+    }
 }
 
 // What a submission came to.
-fn numbered(submitted: Result<u32, Refusal>) -> Event<'static> {
+fn numbered(submitted: Result<u32, Refusal>) -> Event
+    ensures { event_words result ≡ submit_told submitted }
+{
     match submitted {
         Ok(number) => Event::Number(number),
         Err(refusal) => Event::Refused(refusal),
@@ -178,7 +261,9 @@ fn numbered(submitted: Result<u32, Refusal>) -> Event<'static> {
 }
 
 // The rule that a frame met at the host.
-fn host_event(notes: &mut Notes, heard: Heard) -> Result<Event<'static>, AllocError> {
+fn host_event(notes: &mut Notes, heard: Heard) -> Result<Event, AllocError>
+    ensures { IfOk result (λ e. event_words e ≡ heard_words heard (next_number notes.old)) }
+{
     match heard {
         Heard::Stale => Ok(Event::Met(Met::Stale)),
         Heard::Opened => Ok(Event::Met(Met::Opened)),
@@ -192,7 +277,9 @@ fn host_event(notes: &mut Notes, heard: Heard) -> Result<Event<'static>, AllocEr
 }
 
 // The link went down: the note for the block that was on its way is kept.
-fn down(notes: &mut Notes, fall: Fall) -> Result<Event<'static>, AllocError> {
+fn down(notes: &mut Notes, fall: Fall) -> Result<Event, AllocError>
+    ensures { IfOk result (λ e. event_words e ≡ fall_words fall (next_number notes.old)) }
+{
     let Fall { cause, doubt } = fall;
     let Some(note) = doubt else {
         return Ok(Event::Down(cause, None));

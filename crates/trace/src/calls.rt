@@ -44,11 +44,11 @@ impl<W: Write + Drop> Caller<'_, '_, W> {
             Ok(Command::Nothing) => Ok(()),
             Ok(Command::Setup(_)) => self.teller.late_setup(number),
             Ok(Command::Wire(length)) => {
-                buffers.set_wire(length);
+                buffers.set_wire(length)?;
                 Ok(())
             }
             Ok(Command::Buffer(length)) => {
-                buffers.set_block(length);
+                buffers.set_block(length)?;
                 Ok(())
             }
             Ok(Command::Host(call)) => self.host(buffers, number, call),
@@ -61,9 +61,9 @@ impl<W: Write + Drop> Caller<'_, '_, W> {
     fn host(&mut self, buffers: &mut Buffers, number: u64, call: HostCall) -> io::Result<()> {
         let verb = call.verb().name();
         let event = match call {
-            HostCall::Open => self.session.host_open(buffers.wire()),
-            HostCall::Step => self.session.host_step(buffers.wire()),
-            HostCall::Timer => self.session.host_timer(self.notes, buffers.wire())?,
+            HostCall::Open => self.session.host_open(buffers.wire.as_mut_slice())?,
+            HostCall::Step => self.session.host_step(buffers.wire.as_mut_slice())?,
+            HostCall::Timer => self.session.host_timer(self.notes, buffers.wire.as_mut_slice())?,
             HostCall::Hear(bytes) => return self.host_hear(number, bytes),
             HostCall::Submit { channel, block } => {
                 let block = block.bytes(self.alloc)?;
@@ -74,7 +74,7 @@ impl<W: Write + Drop> Caller<'_, '_, W> {
                 self.session.host_again(self.notes, note, block.as_slice())?
             }
             HostCall::WriteOff { note } => host_write_off(self.notes, note),
-            HostCall::Collect { channel } => self.session.host_collect(channel, buffers.block()),
+            HostCall::Collect { channel } => self.session.host_collect(channel, buffers.block.as_mut_slice())?,
         };
         self.teller.called(number, "host", verb, event)
     }
@@ -98,7 +98,7 @@ impl<W: Write + Drop> Caller<'_, '_, W> {
                 let block = block.bytes(self.alloc)?;
                 self.session.tnc_submit(channel, block.as_slice())
             }
-            TncCall::Collect { channel } => self.session.tnc_collect(channel, buffers.block()),
+            TncCall::Collect { channel } => self.session.tnc_collect(channel, buffers.block.as_mut_slice())?,
         };
         self.teller.called(number, "tnc", verb, event)
     }
@@ -106,7 +106,7 @@ impl<W: Write + Drop> Caller<'_, '_, W> {
     // Each byte is one call.
     fn tnc_hear(&mut self, buffers: &mut Buffers, number: u64, bytes: Hex) -> io::Result<()> {
         for (i, byte) in bytes.bytes(self.alloc)?.iter().enumerate() {
-            if let Some(event) = self.session.tnc_hear(*byte, buffers.wire()) {
+            if let Some(event) = self.session.tnc_hear(*byte, buffers.wire.as_mut_slice())? {
                 self.teller.heard(number, "tnc", i + 1, event)?;
             }
         }

@@ -37,11 +37,11 @@ fn run<R: Read + Drop, W: Write + Drop>(
 ) -> io::Result<ExitCode> {
     let mut lines = ScriptLines::new(alloc, reader)?;
     let mut teller = Teller::new(alloc, writer)?;
-    let mut buffers = Buffers::new();
+    let mut buffers = Buffers::new(alloc)?;
     let mut settings = Settings::new();
     set_up(alloc, &mut lines, &mut teller, &mut buffers, &mut settings)?;
     let Settings { host, mut choices } = settings;
-    let mut session = Session::new(host, &mut choices);
+    let mut session = Session::new(alloc, host, &mut choices);
     Caller {
         alloc,
         session: &mut session,
@@ -69,8 +69,8 @@ fn set_up<R: Read + Drop, W: Write + Drop>(
         match read(lines.current()) {
             Ok(Command::Nothing) => {}
             Ok(Command::Setup(setup)) => set(alloc, teller, settings, setup)?,
-            Ok(Command::Wire(length)) => buffers.set_wire(length),
-            Ok(Command::Buffer(length)) => buffers.set_block(length),
+            Ok(Command::Wire(length)) => buffers.set_wire(length)?,
+            Ok(Command::Buffer(length)) => buffers.set_block(length)?,
             Ok(Command::Host(_) | Command::Tnc(_)) => break,
             Err(why) => teller.unreadable(lines.number(), why)?,
         }
