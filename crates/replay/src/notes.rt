@@ -1,6 +1,6 @@
 // The doubt notes that are not spent yet, by the numbers that they got as they were handed out.
-ghost use Rattle.std.specs.Prelude.{◌≡◌, ◌<◌, [], ◌∷◌, ◌++◌, drop, insert, is_ok, nat_lt, if◌then◌else◌, IfOk, OnOk, OnErr, slice_get, vec_len};
-ghost use Rattle.std.specs.List.{position_or_len};
+ghost use Rattle.std.specs.Prelude.{◌≡◌, ◌==◌, [], ◌∷◌, ◌++◌, drop, insert, is_ok, nat_lt, if◌then◌else◌, IfOk, OnOk, OnErr, slice_get};
+ghost use Rattle.std.specs.List.{position, position_or_len};
 ghost use Rattle.replay.specs.Notes.{next_number, note_of, TakesOut};
 
 use host::note::DoubtNote;
@@ -51,7 +51,7 @@ impl Notes {
         ensures rest { TakesOut number self.old.kept.items self.new.kept.items }
         ensures handed { self.new.handed ≡ self.old.handed }
     {
-        let i = self.kept.iter().position(|kept| kept.number == number)?;
+        let i = self.place(number)?;
         Some(self.kept.remove(i))
     }
 
@@ -61,12 +61,7 @@ impl Notes {
         ensures err { OnErr result (self.new.kept.items ≡ self.old.kept.items) }
         ensures handed { self.new.handed ≡ self.old.handed }
     {
-        let number = kept.number;
-        let i = self
-            .kept
-            .iter()
-            .position(|other| other.number > number)
-            .unwrap_or(self.kept.len());
+        let i = self.younger(kept.number).unwrap_or(self.kept.len());
         match self.kept.insert(i, kept) {
             Ok(()) => Ok(()),
             Err(failed) => Err(lost(failed)),
@@ -83,6 +78,20 @@ impl Notes {
             return None;
         }
         Some(self.kept.remove(0))
+    }
+
+    // Where the note of a number stands.
+    fn place(&self, number: u64) -> Option<usize>
+        ensures { result ≡ position (λ k. k.number == number) self.now.kept.items }
+    {
+        self.kept.iter().position(|kept| kept.number == number)
+    }
+
+    // Where the first note stands that was handed out after that of a number.
+    fn younger(&self, number: u64) -> Option<usize>
+        ensures { result ≡ position (λ k. nat_lt number k.number) self.now.kept.items }
+    {
+        self.kept.iter().position(|kept| number < kept.number)
     }
 
     /// Writes off all that are not spent.
