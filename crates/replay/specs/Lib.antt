@@ -1,4 +1,7 @@
 pub mod AnyStore
+pub mod Area
+pub mod Ending
 pub mod Event
 pub mod Notes
+pub mod Settings
 pub mod Told

@@ -31,20 +31,33 @@ pub enum Choice {
 }
 
 impl From<AreaRefusal> for AreaError {
+    ghost use Rattle.replay.specs.declared.area.AreaError.TheVariants.{Refused};
+
+    ghost from_gives = { λ e r. r ≡ Refused e };
+
     fn from(e: AreaRefusal) -> AreaError {
         AreaError::Refused(e)
     }
 }
 
 impl From<AllocError> for AreaError {
+    ghost use Rattle.replay.specs.declared.area.AreaError.TheVariants.{NoMemory};
+
+    ghost from_gives = { λ _ r. r ≡ NoMemory };
+
     fn from(_e: AllocError) -> AreaError {
         AreaError::NoMemory
     }
 }
 
 impl Area {
+    ghost use Rattle.std.specs.Prelude.{MatchResult};
+    ghost use Rattle.replay.specs.Area.{NoArea};
+
     /// An area of so many bytes, all of them 0. Of a length that no strip has, one byte more than the longest is enough to see that.
-    pub fn new(alloc: Global, length: u64) -> Result<Area, AreaError> {
+    pub fn new(alloc: Global, length: u64) -> Result<Area, AreaError>
+        ensures { MatchResult result (λ a. vec_len a.bytes ≡ length) (NoArea length) }
+    {
         let bytes = vec![in alloc; 0; at_most(length, LONGEST_AREA + 1)]?;
         check(bytes.as_slice())?;
         Ok(Area { bytes })
@@ -52,8 +65,14 @@ impl Area {
 }
 
 impl Choice {
+    ghost use Rattle.store.specs.Meaning.{empty};
+    ghost use Rattle.replay.specs.AnyStore.{meaning_of};
+    ghost use Rattle.replay.specs.Settings.{limit_chosen};
+
     /// A store of the chosen kind, empty.
-    pub fn store(&mut self) -> AnyStore<'_> {
+    pub fn store(&mut self) -> AnyStore<'_>
+        ensures { meaning_of result ≡ empty (limit_chosen self.old) }
+    {
         match self {
             Choice::Shelf => AnyStore::Shelf(Shelf::new()),
             Choice::Strip(area) => AnyStore::Strip(Strip::new(area.bytes.as_mut_slice())),

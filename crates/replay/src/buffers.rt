@@ -53,3 +53,13 @@ pub fn at_most(length: u64, most: usize) -> usize
         Err(_) => most,
     }
 }
+
+/// A number as a byte, or the highest byte.
+pub fn byte(number: u64) -> u8
+    ensures { result ≡ min number 255 }
+{
+    match u8::try_from(number) {
+        Ok(byte) => byte,
+        Err(_) => u8::MAX,
+    }
+}

@@ -4,6 +4,7 @@
 pub mod any_store;
 pub mod area;
 pub mod buffers;
+pub mod ending;
 pub mod event;
 pub mod notes;
 pub mod session;

@@ -1,5 +1,5 @@
 // The doubt notes that are not spent yet, by the numbers that they got as they were handed out.
-ghost use Rattle.std.specs.Prelude.{◌≡◌, ◌==◌, [], ◌∷◌, ◌++◌, drop, insert, is_ok, nat_lt, if◌then◌else◌, IfOk, OnOk, OnErr, slice_get};
+ghost use Rattle.std.specs.Prelude.{◌≡◌, ◌==◌, [], ◌∷◌, ◌++◌, drop, insert, is_ok, nat_lt, if◌then◌else◌, IfOk, OnOk, OnErr, OnSome, slice_get, vec_len, ◌+◌};
 ghost use Rattle.std.specs.List.{position, position_or_len};
 ghost use Rattle.replay.specs.Notes.{next_number, note_of, TakesOut};
 
@@ -72,6 +72,7 @@ impl Notes {
     pub fn oldest(&mut self) -> Option<Kept>
         ensures value { result ≡ slice_get self.old.kept.items 0 }
         ensures rest { self.new.kept.items ≡ drop 1 self.old.kept.items }
+        ensures fewer { OnSome result (vec_len self.new.kept + 1 ≡ vec_len self.old.kept) }
         ensures handed { self.new.handed ≡ self.old.handed }
     {
         if self.kept.is_empty() {

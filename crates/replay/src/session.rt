@@ -2,12 +2,12 @@
 // definitions in specs/Told.antt, and it changes what the end's own call changes.
 ghost use Rattle.std.specs.Prelude.{◌≡◌, min, length, IfOk, MatchOption};
 ghost use Rattle.std.specs.Option.{option_map};
-ghost use Rattle.store.specs.Meaning.{Meaning, plain};
+ghost use Rattle.store.specs.Meaning.{Meaning, plain, empty};
 ghost use Rattle.reader.specs.Read.{hears};
 ghost use Rattle.ends.specs.Ear.{heard_by};
 ghost use Rattle.ends.specs.Blocks.{submit_answer, submit_counts, submit_store, collect_answer, collect_store};
 ghost use Rattle.ends.specs.Host.{open_call, step_call, timer_call, host_counts};
-ghost use Rattle.ends.specs.Tnc.{tnc_counts};
+ghost use Rattle.ends.specs.Tnc.{new_tnc, tnc_counts};
 ghost use Rattle.host.specs.Model.{host_of};
 ghost use Rattle.host.specs.Answers.{open_answer, step_answer, timer_answer};
 ghost use Rattle.host.specs.Hear.{hear_answer, hear_call};
@@ -18,9 +18,11 @@ ghost use Rattle.tnc.specs.Left as tnc_left;
 ghost use Rattle.replay.specs.AnyStore.{meaning_of};
 ghost use Rattle.replay.specs.Event.{event_words};
 ghost use Rattle.replay.specs.Notes.{next_number, note_of};
+ghost use Rattle.replay.specs.Settings.{limit_chosen};
 ghost use Rattle.replay.specs.Told.{sent_words, collected_words, fall_words, heard_words, open_told, step_told, timer_told, hear_told, tnc_told, submit_told, collect_told, no_note_words, written_off_words};
 
 use crate::any_store::AnyStore;
+use crate::buffers::byte;
 use crate::event::{Doubt, Event, Met, Sending};
 use crate::notes::{Kept, Notes};
 use crate::settings::Choices;
@@ -32,7 +34,7 @@ use std::alloc::{AllocError, Global};
 use tnc::answer::Heard as Answered;
 use tnc::tnc::Tnc;
 
-/// The two ends, each with its stores.
+/// The two ends, each with its stores. A number above 255 is no byte, and is no channel either: a call is then given 255.
 #[derive(Drop)]
 pub struct Session<'a> {
     alloc: Global,
@@ -46,7 +48,14 @@ pub struct Session<'a> {
 
 impl<'a> Session<'a> {
     /// The ends before the first call, on the stores that were chosen.
-    pub fn new(alloc: Global, host: Host, choices: &'a mut Choices) -> Session<'a> {
+    pub fn new(alloc: Global, host: Host, choices: &'a mut Choices) -> Session<'a>
+        ensures host { result.host ≡ host }
+        ensures tnc { tnc_of result.tnc.link ≡ new_tnc }
+        ensures host_out { meaning_of result.host_out ≡ empty (limit_chosen choices.old.host_out) }
+        ensures host_in { meaning_of result.host_in ≡ empty (limit_chosen choices.old.host_in) }
+        ensures tnc_out { meaning_of result.tnc_out ≡ empty (limit_chosen choices.old.tnc_out) }
+        ensures tnc_in { meaning_of result.tnc_in ≡ empty (limit_chosen choices.old.tnc_in) }
+    {
         let Choices {
             host_out,
             host_in,
@@ -132,7 +141,7 @@ impl<'a> Session<'a> {
         ensures after { host_of self.new.host.link ≡ host_counts (host_of self.old.host.link) (submit_counts (host_of self.old.host.link).submitted (meaning_of self.old.host_out) (min channel 255) (plain block.now)) }
         ensures out { meaning_of self.new.host_out ≡ submit_store (host_of self.old.host.link).submitted (meaning_of self.old.host_out) (min channel 255) (plain block.now) }
     {
-        let channel = channel_byte(channel);
+        let channel = byte(channel);
         numbered(self.host.submit(&mut self.host_out, channel, block))
     }
 
@@ -164,7 +173,7 @@ impl<'a> Session<'a> {
         ensures told { IfOk result (λ e. event_words e ≡ collect_told (collect_answer (meaning_of self.old.host_in) (min channel 255) (length buffer.old)) buffer.new) }
         ensures inn { meaning_of self.new.host_in ≡ collect_store (meaning_of self.old.host_in) (min channel 255) (length buffer.old) }
     {
-        let channel = channel_byte(channel);
+        let channel = byte(channel);
         match self.host.collect(&mut self.host_in, channel, buffer) {
             Ok(len) => self.collected(&buffer[..len]),
             Err(refusal) => Ok(Event::Refused(refusal)),
@@ -193,7 +202,7 @@ impl<'a> Session<'a> {
         ensures after { tnc_of self.new.tnc.link ≡ tnc_counts (tnc_of self.old.tnc.link) (submit_counts (tnc_of self.old.tnc.link).submitted (meaning_of self.old.tnc_out) (min channel 255) (plain block.now)) }
         ensures out { meaning_of self.new.tnc_out ≡ submit_store (tnc_of self.old.tnc.link).submitted (meaning_of self.old.tnc_out) (min channel 255) (plain block.now) }
     {
-        let channel = channel_byte(channel);
+        let channel = byte(channel);
         numbered(self.tnc.submit(&mut self.tnc_out, channel, block))
     }
 
@@ -205,7 +214,7 @@ impl<'a> Session<'a> {
         ensures told { IfOk result (λ e. event_words e ≡ collect_told (collect_answer (meaning_of self.old.tnc_in) (min channel 255) (length buffer.old)) buffer.new) }
         ensures inn { meaning_of self.new.tnc_in ≡ collect_store (meaning_of self.old.tnc_in) (min channel 255) (length buffer.old) }
     {
-        let channel = channel_byte(channel);
+        let channel = byte(channel);
         match self.tnc.collect(&mut self.tnc_in, channel, buffer) {
             Ok(len) => self.collected(&buffer[..len]),
             Err(refusal) => Ok(Event::Refused(refusal)),
@@ -237,16 +246,6 @@ pub fn host_write_off(notes: &mut Notes, number: u64) -> Event
             Event::WrittenOff
         }
         None => Event::NoNote(number),
-    }
-}
-
-// The channel that a call is given. A number above 255 is no byte; it is refused as 255 is, which is no channel either.
-fn channel_byte(channel: u64) -> u8
-    ensures { result ≡ min channel 255 }
-{
-    match u8::try_from(channel) {
-        Ok(channel) => channel,
-        Err(_) => u8::MAX,
     }
 }
 

@@ -1,5 +1,12 @@
 // What a script sets up before the first call.
+ghost use Rattle.std.specs.Prelude.{◌≡◌, Some, OnOk, OnErr, IfErr, MatchResult, vec_len};
+ghost use Rattle.ends.specs.Host.{new_host};
+ghost use Rattle.host.specs.Model.{host_of};
+ghost use Rattle.replay.specs.declared.area.Choice.TheVariants as choice;
+ghost use Rattle.replay.specs.Settings.{choose, SetUp, NotSetUp, error_words};
+
 use crate::area::{Area, AreaError, Choice};
+use crate::buffers::byte;
 use ends::refusal::Refusal;
 use host::host::Host;
 use script::command::Setup;
@@ -37,7 +44,10 @@ pub enum SetupError {
 
 impl Settings {
     /// As it is where the script sets up nothing: 3 repeats, four shelves.
-    pub fn new() -> Settings {
+    pub fn new() -> Settings
+        ensures host { host_of result.host.link ≡ new_host 3 }
+        ensures choices { result.choices ≡ record { host_out = choice.Shelf; host_in = choice.Shelf; tnc_out = choice.Shelf; tnc_in = choice.Shelf } }
+    {
         Settings {
             host: Host::new(REPEATS).unwrap(),
             choices: Choices {
@@ -50,16 +60,19 @@ impl Settings {
     }
 
     /// Sets up what a line says.
-    pub fn set(&mut self, alloc: Global, setup: Setup) -> Result<(), SetupError> {
+    pub fn set(&mut self, alloc: Global, setup: Setup) -> Result<(), SetupError>
+        ensures ok { OnOk result (SetUp setup self.old self.new) }
+        ensures err { OnErr result (self.new ≡ self.old) }
+        ensures why { IfErr result (NotSetUp setup) }
+    {
         match setup {
             Setup::Repeats(repeats) => {
-                let repeats = u8::try_from(repeats).unwrap_or(u8::MAX);
-                self.host = Host::new(repeats).map_err(SetupError::Repeats)?;
+                self.host = host_with(repeats)?;
             }
-            Setup::Shelf(place) => *self.choices.at(place) = Choice::Shelf,
+            Setup::Shelf(place) => self.choices.choose(place, Choice::Shelf),
             Setup::Strip(place, length) => {
                 let area = area_at(alloc, place, length)?;
-                *self.choices.at(place) = Choice::Strip(area);
+                self.choices.choose(place, Choice::Strip(area));
             }
         }
         Ok(())
@@ -67,19 +80,33 @@ impl Settings {
 }
 
 impl Choices {
-    // The store of a place.
-    fn at(&mut self, place: Place) -> &mut Choice {
+    // Another store for a place.
+    fn choose(&mut self, place: Place, choice: Choice)
+        ensures { self.new ≡ choose place choice self.old }
+    {
         match place {
-            Place::HostOut => &mut self.host_out,
-            Place::HostIn => &mut self.host_in,
-            Place::TncOut => &mut self.tnc_out,
-            Place::TncIn => &mut self.tnc_in,
+            Place::HostOut => self.host_out = choice,
+            Place::HostIn => self.host_in = choice,
+            Place::TncOut => self.tnc_out = choice,
+            Place::TncIn => self.tnc_in = choice,
         }
     }
 }
 
+// A host that repeats a frame so often. A number above 255 is no byte; it is refused as 255 is.
+fn host_with(repeats: u64) -> Result<Host, SetupError>
+    ensures { MatchResult result (λ h. host_of h.link ≡ new_host repeats) (NotSetUp (Setup.Repeats repeats)) }
+{
+    match Host::new(byte(repeats)) {
+        Ok(host) => Ok(host),
+        Err(refusal) => Err(SetupError::Repeats(refusal)),
+    }
+}
+
 // An area for the strip of a place.
-fn area_at(alloc: Global, place: Place, length: u64) -> Result<Area, SetupError> {
+fn area_at(alloc: Global, place: Place, length: u64) -> Result<Area, SetupError>
+    ensures { MatchResult result (λ a. vec_len a.bytes ≡ length) (NotSetUp (Setup.Strip place length)) }
+{
     match Area::new(alloc, length) {
         Ok(area) => Ok(area),
         Err(AreaError::Refused(refusal)) => Err(SetupError::Store(place, refusal)),
@@ -88,6 +115,8 @@ fn area_at(alloc: Global, place: Place, length: u64) -> Result<Area, SetupError>
 }
 
 impl fmt::Display for SetupError {
+    ghost output = { λ e. Some (error_words e) };
+
     fn fmt<W: fmt::Write>(&self, f: &mut fmt::Formatter<W>) -> fmt::Result {
         match self {
             SetupError::Repeats(refusal) => write!(f, "repeats refused {}", refusal.number()),

@@ -24,7 +24,7 @@ pub struct Caller<'a, 'b, W: Write + Drop> {
 impl<W: Write + Drop> Caller<'_, '_, W> {
     /// The current line of the script, and those after it.
     pub fn call_all<R: Read + Drop>(
-        mut self,
+        &mut self,
         lines: &mut ScriptLines<R>,
         buffers: &mut Buffers,
     ) -> io::Result<()> {

@@ -42,13 +42,13 @@ fn run<R: Read + Drop, W: Write + Drop>(
     set_up(alloc, &mut lines, &mut teller, &mut buffers, &mut settings)?;
     let Settings { host, mut choices } = settings;
     let mut session = Session::new(alloc, host, &mut choices);
-    Caller {
+    let mut caller = Caller {
         alloc,
         session: &mut session,
         notes: &mut *notes,
         teller: &mut teller,
-    }
-    .call_all(&mut lines, &mut buffers)?;
+    };
+    caller.call_all(&mut lines, &mut buffers)?;
     close(&session, &mut teller)?;
     settle(notes, &mut teller)?;
     teller.finish()

@@ -1,0 +1,63 @@
+-- What a script sets up.
+use Rattle.std.specs.Prelude.{◌≡◌, ℕ, ◌<◌, ◌⊎◌, List, ◌++◌, codes, decimal, vec_len, Result, Err}
+use Rattle.shelf.specs.Size.{place_count}
+use Rattle.strip.specs.declared.refusal.AreaRefusal.TheVariants.{BadSize}
+use Rattle.strip.specs.Records.{limit_of}
+use Rattle.strip.specs.Refusal as area
+use Rattle.ends.specs.declared.refusal.Refusal.TheVariants.{ManyRepeats}
+use Rattle.ends.specs.Refusal.{refusal_number}
+use Rattle.ends.specs.Limits.{most_repeats}
+use Rattle.ends.specs.Host.{new_host}
+use Rattle.host.specs.Model.{host_of}
+use Rattle.script.specs.Names.{place_name}
+use Rattle.script.specs.declared.name.Place.{Place}
+use Rattle.script.specs.declared.name.Place.TheVariants as place
+use Rattle.script.specs.declared.command.Setup.{Setup}
+use Rattle.script.specs.declared.command.Setup.TheVariants as setup
+use Rattle.replay.specs.declared.area.Choice.{Choice}
+use Rattle.replay.specs.declared.area.Choice.TheVariants as choice
+use Rattle.replay.specs.declared.settings.Choices.{Choices}
+use Rattle.replay.specs.declared.settings.Settings.{Settings}
+use Rattle.replay.specs.declared.settings.SetupError.{SetupError}
+use Rattle.replay.specs.declared.settings.SetupError.TheVariants as error
+
+-- how many blocks a store takes, by what is chosen
+abbrev pub limit_chosen : Choice → ℕ
+limit_chosen choice.Shelf = place_count
+limit_chosen (choice.Strip a) = limit_of (vec_len a.bytes)
+
+-- another store for one place
+abbrev pub choose : Place → Choice → Choices → Choices
+choose place.HostOut x c = record c { host_out = x }
+choose place.HostIn x c = record c { host_in = x }
+choose place.TncOut x c = record c { tnc_out = x }
+choose place.TncIn x c = record c { tnc_in = x }
+
+abbrev pub chosen_at : Place → Choices → Choice
+chosen_at place.HostOut c = c.host_out
+chosen_at place.HostIn c = c.host_in
+chosen_at place.TncOut c = c.tnc_out
+chosen_at place.TncIn c = c.tnc_in
+
+-- a strip for one place, in an area of so many bytes
+abbrev pub HasArea : Choice → ℕ → Type 0
+HasArea choice.Shelf n = ⊥
+HasArea (choice.Strip a) n = vec_len a.bytes ≡ n
+
+-- what a granted set-up leaves
+abbrev pub SetUp : Setup → Settings → Settings → Type 0
+SetUp (setup.Repeats n) old new = (host_of new.host.link ≡ new_host n) × (new.choices ≡ old.choices)
+SetUp (setup.Shelf p) old new = (new.host ≡ old.host) × (new.choices ≡ choose p choice.Shelf old.choices)
+SetUp (setup.Strip p n) old new =
+    (new.host ≡ old.host) × (new.choices ≡ choose p (chosen_at p new.choices) old.choices) × HasArea (chosen_at p new.choices) n
+
+-- why one is not granted
+abbrev pub NotSetUp : Setup → SetupError → Type 0
+NotSetUp (setup.Repeats n) e = (most_repeats < n) × (e ≡ error.Repeats ManyRepeats)
+NotSetUp (setup.Shelf p) e = ⊥
+NotSetUp (setup.Strip p n) e = (e ≡ error.NoMemory) ⊎ ((e ≡ error.Store p BadSize) × (area.check_answer n ≡ Err BadSize))
+
+abbrev pub error_words : SetupError → List ℕ
+error_words (error.Repeats r) = codes "repeats refused " ++ decimal (refusal_number r)
+error_words (error.Store p r) = codes "store " ++ (place_name p ++ (codes " refused " ++ decimal (area.refusal_number r)))
+error_words error.NoMemory = codes "there is no memory for it"
