@@ -1,4 +1,5 @@
 // The calls of a script, made one after the other.
+use crate::closing::{close, settle};
 use crate::script_lines::ScriptLines;
 use crate::telling::Teller;
 use replay::buffers::Buffers;
@@ -11,14 +12,15 @@ use script::reading::read;
 use std::alloc::Global;
 use std::io;
 use std::io::{Read, Write};
+use std::process::ExitCode;
 
 /// Makes the calls of lines on a session, and tells what comes of them.
 #[derive(Drop)]
 pub struct Caller<'a, 'b, W: Write + Drop> {
     pub alloc: Global,
-    pub session: &'a mut Session<'b>,
-    pub notes: &'a mut Notes,
-    pub teller: &'a mut Teller<W>,
+    pub session: Session<'a>,
+    pub notes: &'b mut Notes,
+    pub teller: Teller<W>,
 }
 
 impl<W: Write + Drop> Caller<'_, '_, W> {
@@ -36,6 +38,19 @@ impl<W: Write + Drop> Caller<'_, '_, W> {
             lines.advance()?;
         }
         Ok(())
+    }
+
+    /// The script is through: what is told at the end, and the status of the program.
+    pub fn close(self) -> io::Result<ExitCode> {
+        let Caller {
+            alloc: _,
+            session,
+            notes,
+            mut teller,
+        } = self;
+        close(&session, &mut teller)?;
+        settle(notes, &mut teller)?;
+        teller.finish()
     }
 
     // What one line says.

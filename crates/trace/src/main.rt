@@ -7,7 +7,6 @@ mod script_lines;
 mod telling;
 
 use crate::calls::Caller;
-use crate::closing::{close, settle};
 use crate::script_lines::ScriptLines;
 use crate::telling::Teller;
 use replay::buffers::Buffers;
@@ -41,17 +40,14 @@ fn run<R: Read + Drop, W: Write + Drop>(
     let mut settings = Settings::new();
     set_up(alloc, &mut lines, &mut teller, &mut buffers, &mut settings)?;
     let Settings { host, mut choices } = settings;
-    let mut session = Session::new(alloc, host, &mut choices);
     let mut caller = Caller {
         alloc,
-        session: &mut session,
-        notes: &mut *notes,
-        teller: &mut teller,
+        session: Session::new(alloc, host, &mut choices),
+        notes,
+        teller,
     };
     caller.call_all(&mut lines, &mut buffers)?;
-    close(&session, &mut teller)?;
-    settle(notes, &mut teller)?;
-    teller.finish()
+    caller.close()
 }
 
 // Reads up to the first call. Its line is then the current one; if there is none, the script is at its end.
