@@ -1,5 +1,11 @@
 -- The notes that are not spent.
-use Rattle.std.specs.Prelude.{◌≡◌, ℕ, ◌+◌, ◌-◌, ◌^◌, ◌==◌, min, List, Option, find, position, remove, MatchOption}
+use Rattle.std.specs.Prelude.{◌≡◌, ℕ, ◌+◌, ◌-◌, ◌^◌, ◌==◌, min, List, [], ◌∷◌, ◌++◌, Option, Some, None, Result, Ok, Err, find, position, remove, MatchOption}
+use Rattle.ends.specs.declared.refusal.Refusal.{Refusal}
+use Rattle.host.specs.declared.note.DoubtNote.{DoubtNote}
+use Rattle.host.specs.declared.answer.Timed.{Timed}
+use Rattle.host.specs.declared.answer.Timed.TheVariants as timed
+use Rattle.host.specs.declared.answer.Heard.{Heard}
+use Rattle.host.specs.declared.answer.Heard.TheVariants as heard
 use Rattle.replay.specs.declared.notes.Kept.{Kept}
 use Rattle.replay.specs.declared.notes.Notes.{Notes}
 
@@ -14,3 +20,30 @@ note_of number notes = find (λ k. k.number == number) notes
 -- that note is taken out, if there is one
 abbrev pub TakesOut : ℕ → List Kept → List Kept → Type 0
 TakesOut number old new = MatchOption (position (λ k. k.number == number) old) (new ≡ old) (λ i. new ≡ remove old i)
+
+-- a note that is handed out now, if one is, is kept as the youngest
+abbrev pub Keeps : Option DoubtNote → Notes → Notes → Type 0
+Keeps None old new = new ≡ old
+Keeps (Some d) old new =
+    (new.handed ≡ next_number old) × (new.kept.items ≡ old.kept.items ++ record { number = next_number old; note = d } ∷ [])
+
+-- the note that a fall, a timer and a byte hand out
+abbrev pub timed_doubt : Result Timed Refusal → Option DoubtNote
+timed_doubt (Ok (timed.Repeated n)) = None
+timed_doubt (Ok (timed.Down f)) = f.doubt
+timed_doubt (Err e) = None
+
+abbrev pub rule_doubt : Heard → Option DoubtNote
+rule_doubt heard.Stale = None
+rule_doubt heard.Opened = None
+rule_doubt (heard.Confirmed b) = None
+rule_doubt heard.BlockRefused = None
+rule_doubt heard.NothingThere = None
+rule_doubt heard.Received = None
+rule_doubt heard.Listed = None
+rule_doubt (heard.Down f) = f.doubt
+
+abbrev pub heard_doubt : Result (Option Heard) Refusal → Option DoubtNote
+heard_doubt (Ok None) = None
+heard_doubt (Ok (Some h)) = rule_doubt h
+heard_doubt (Err e) = None

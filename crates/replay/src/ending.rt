@@ -82,6 +82,9 @@ impl fmt::Display for Tally {
             gone,
             waiting,
         } = self;
-        write!(f, "channel {channel} submitted {submitted} gone {gone} waiting {waiting}")
+        write!(
+            f,
+            "channel {channel} submitted {submitted} gone {gone} waiting {waiting}"
+        )
     }
 }

@@ -1,6 +1,6 @@
 // Both ends with their stores, and the calls of a script made on them. What a call tells is what the end answers, by the
 // definitions in specs/Told.antt, and it changes what the end's own call changes.
-ghost use Rattle.std.specs.Prelude.{◌≡◌, min, length, IfOk, MatchOption};
+ghost use Rattle.std.specs.Prelude.{◌≡◌, min, length, IfOk, OnOk, MatchOption};
 ghost use Rattle.std.specs.Option.{option_map};
 ghost use Rattle.store.specs.Meaning.{Meaning, plain, empty};
 ghost use Rattle.reader.specs.Read.{hears};
@@ -17,7 +17,7 @@ ghost use Rattle.tnc.specs.Hear as tnc_rules;
 ghost use Rattle.tnc.specs.Left as tnc_left;
 ghost use Rattle.replay.specs.AnyStore.{meaning_of};
 ghost use Rattle.replay.specs.Event.{event_words};
-ghost use Rattle.replay.specs.Notes.{next_number, note_of};
+ghost use Rattle.replay.specs.Notes.{next_number, note_of, TakesOut, Keeps, timed_doubt, rule_doubt, heard_doubt};
 ghost use Rattle.replay.specs.Settings.{limit_chosen};
 ghost use Rattle.replay.specs.Told.{sent_words, collected_words, fall_words, heard_words, open_told, step_told, timer_told, hear_told, tnc_told, submit_told, collect_told, no_note_words, written_off_words};
 
@@ -88,6 +88,7 @@ impl<'a> Session<'a> {
     pub fn host_open(&mut self, wire: &mut [u8]) -> Result<Event, AllocError>
         ensures told { IfOk result (λ e. event_words e ≡ open_told (open_answer (host_of self.old.host.link) (length wire.old)) wire.new) }
         ensures after { (out inn : Meaning) → Left (open_call (length wire.old) (host_of self.old.host.link) out inn) self.old.host self.new.host out inn wire.old wire.new }
+        ensures only { self.new ≡ record self.old { host = self.new.host } }
     {
         match self.host.open(wire) {
             Ok(sent) => self.sent(Sending::Open, &wire[..sent]),
@@ -98,6 +99,7 @@ impl<'a> Session<'a> {
     pub fn host_step(&mut self, wire: &mut [u8]) -> Result<Event, AllocError>
         ensures told { IfOk result (λ e. event_words e ≡ step_told (step_answer (host_of self.old.host.link) (meaning_of self.old.host_out) (length wire.old)) wire.new) }
         ensures after { (inn : Meaning) → Left (step_call (length wire.old) (host_of self.old.host.link) (meaning_of self.old.host_out) inn) self.old.host self.new.host (meaning_of self.old.host_out) inn wire.old wire.new }
+        ensures only { self.new ≡ record self.old { host = self.new.host } }
     {
         match self.host.step(&self.host_out, wire) {
             Ok(Stepped { rule, sent }) => self.sent(Sending::Step(rule), &wire[..sent]),
@@ -105,13 +107,11 @@ impl<'a> Session<'a> {
         }
     }
 
-    pub fn host_timer(
-        &mut self,
-        notes: &mut Notes,
-        wire: &mut [u8],
-    ) -> Result<Event, AllocError>
+    pub fn host_timer(&mut self, notes: &mut Notes, wire: &mut [u8]) -> Result<Event, AllocError>
         ensures told { IfOk result (λ e. event_words e ≡ timer_told (timer_answer (host_of self.old.host.link) (length wire.old)) (next_number notes.old) wire.new) }
         ensures after { (inn : Meaning) → Left (timer_call (length wire.old) (host_of self.old.host.link) (meaning_of self.old.host_out) inn) self.old.host self.new.host (meaning_of self.new.host_out) inn wire.old wire.new }
+        ensures kept { OnOk result (Keeps (timed_doubt (timer_answer (host_of self.old.host.link) (length wire.old))) notes.old notes.new) }
+        ensures only { self.new ≡ record self.old { host = self.new.host; host_out = self.new.host_out } }
     {
         match self.host.timer(&mut self.host_out, wire) {
             Ok(Timed::Repeated(sent)) => self.sent(Sending::Repeat, &wire[..sent]),
@@ -120,14 +120,12 @@ impl<'a> Session<'a> {
         }
     }
 
-    pub fn host_hear(
-        &mut self,
-        notes: &mut Notes,
-        byte: u8,
-    ) -> Result<Option<Event>, AllocError>
+    pub fn host_hear(&mut self, notes: &mut Notes, byte: u8) -> Result<Option<Event>, AllocError>
         ensures told { IfOk result (λ o. option_map event_words o ≡ hear_told (hear_answer (hears (heard_by self.old.host.ear) byte) (host_of self.old.host.link) (meaning_of self.old.host_out) (meaning_of self.old.host_in)) (next_number notes.old)) }
         ensures after { Stands (hear_call (hears (heard_by self.old.host.ear) byte) (host_of self.old.host.link) (meaning_of self.old.host_out) (meaning_of self.old.host_in)) (host_of self.new.host.link) (meaning_of self.new.host_out) (meaning_of self.new.host_in) }
         ensures ear { heard_by self.new.host.ear ≡ (hears (heard_by self.old.host.ear) byte).then }
+        ensures kept { OnOk result (Keeps (heard_doubt (hear_answer (hears (heard_by self.old.host.ear) byte) (host_of self.old.host.link) (meaning_of self.old.host_out) (meaning_of self.old.host_in))) notes.old notes.new) }
+        ensures only { self.new ≡ record self.old { host = self.new.host; host_out = self.new.host_out; host_in = self.new.host_in } }
     {
         match self.host.hear(&mut self.host_out, &mut self.host_in, byte) {
             Ok(None) => Ok(None),
@@ -140,6 +138,7 @@ impl<'a> Session<'a> {
         ensures told { event_words result ≡ submit_told (submit_answer (host_of self.old.host.link).submitted (meaning_of self.old.host_out) (min channel 255) (plain block.now)) }
         ensures after { host_of self.new.host.link ≡ host_counts (host_of self.old.host.link) (submit_counts (host_of self.old.host.link).submitted (meaning_of self.old.host_out) (min channel 255) (plain block.now)) }
         ensures out { meaning_of self.new.host_out ≡ submit_store (host_of self.old.host.link).submitted (meaning_of self.old.host_out) (min channel 255) (plain block.now) }
+        ensures only { self.new ≡ record self.old { host = self.new.host; host_out = self.new.host_out } }
     {
         let channel = byte(channel);
         numbered(self.host.submit(&mut self.host_out, channel, block))
@@ -152,6 +151,8 @@ impl<'a> Session<'a> {
         block: &[u8],
     ) -> Result<Event, AllocError>
         ensures told { IfOk result (λ e. MatchOption (note_of number notes.old.kept.items) (event_words e ≡ no_note_words number) (λ k. event_words e ≡ submit_told (submit_answer (host_of self.old.host.link).submitted (meaning_of self.old.host_out) k.note.channel (plain block.now)))) }
+        ensures out { MatchOption (note_of number notes.old.kept.items) (self.new ≡ self.old) (λ k. meaning_of self.new.host_out ≡ submit_store (host_of self.old.host.link).submitted (meaning_of self.old.host_out) k.note.channel (plain block.now)) }
+        ensures only { self.new ≡ record self.old { host = self.new.host; host_out = self.new.host_out } }
     {
         let Some(Kept { number, note }) = notes.take(number) else {
             return Ok(Event::NoNote(number));
@@ -165,13 +166,10 @@ impl<'a> Session<'a> {
         }
     }
 
-    pub fn host_collect(
-        &mut self,
-        channel: u64,
-        buffer: &mut [u8],
-    ) -> Result<Event, AllocError>
+    pub fn host_collect(&mut self, channel: u64, buffer: &mut [u8]) -> Result<Event, AllocError>
         ensures told { IfOk result (λ e. event_words e ≡ collect_told (collect_answer (meaning_of self.old.host_in) (min channel 255) (length buffer.old)) buffer.new) }
         ensures inn { meaning_of self.new.host_in ≡ collect_store (meaning_of self.old.host_in) (min channel 255) (length buffer.old) }
+        ensures only { self.new ≡ record self.old { host_in = self.new.host_in } }
     {
         let channel = byte(channel);
         match self.host.collect(&mut self.host_in, channel, buffer) {
@@ -183,6 +181,7 @@ impl<'a> Session<'a> {
     pub fn tnc_hear(&mut self, byte: u8, wire: &mut [u8]) -> Result<Option<Event>, AllocError>
         ensures told { IfOk result (λ o. option_map event_words o ≡ tnc_told (tnc_rules.hear_answer (length wire.old) (hears (heard_by self.old.tnc.ear) byte) (tnc_of self.old.tnc.link) (meaning_of self.old.tnc_out) (meaning_of self.old.tnc_in)) wire.new) }
         ensures after { tnc_left.Left (tnc_rules.hear_call (length wire.old) (hears (heard_by self.old.tnc.ear) byte) (tnc_of self.old.tnc.link) (meaning_of self.old.tnc_out) (meaning_of self.old.tnc_in)) (tnc_of self.new.tnc.link) (meaning_of self.new.tnc_out) (meaning_of self.new.tnc_in) wire.old wire.new }
+        ensures only { self.new ≡ record self.old { tnc = self.new.tnc; tnc_out = self.new.tnc_out; tnc_in = self.new.tnc_in } }
     {
         match self
             .tnc
@@ -201,18 +200,16 @@ impl<'a> Session<'a> {
         ensures told { event_words result ≡ submit_told (submit_answer (tnc_of self.old.tnc.link).submitted (meaning_of self.old.tnc_out) (min channel 255) (plain block.now)) }
         ensures after { tnc_of self.new.tnc.link ≡ tnc_counts (tnc_of self.old.tnc.link) (submit_counts (tnc_of self.old.tnc.link).submitted (meaning_of self.old.tnc_out) (min channel 255) (plain block.now)) }
         ensures out { meaning_of self.new.tnc_out ≡ submit_store (tnc_of self.old.tnc.link).submitted (meaning_of self.old.tnc_out) (min channel 255) (plain block.now) }
+        ensures only { self.new ≡ record self.old { tnc = self.new.tnc; tnc_out = self.new.tnc_out } }
     {
         let channel = byte(channel);
         numbered(self.tnc.submit(&mut self.tnc_out, channel, block))
     }
 
-    pub fn tnc_collect(
-        &mut self,
-        channel: u64,
-        buffer: &mut [u8],
-    ) -> Result<Event, AllocError>
+    pub fn tnc_collect(&mut self, channel: u64, buffer: &mut [u8]) -> Result<Event, AllocError>
         ensures told { IfOk result (λ e. event_words e ≡ collect_told (collect_answer (meaning_of self.old.tnc_in) (min channel 255) (length buffer.old)) buffer.new) }
         ensures inn { meaning_of self.new.tnc_in ≡ collect_store (meaning_of self.old.tnc_in) (min channel 255) (length buffer.old) }
+        ensures only { self.new ≡ record self.old { tnc_in = self.new.tnc_in } }
     {
         let channel = byte(channel);
         match self.tnc.collect(&mut self.tnc_in, channel, buffer) {
@@ -238,7 +235,8 @@ impl<'a> Session<'a> {
 
 /// Spends a note, if there is one of the number.
 pub fn host_write_off(notes: &mut Notes, number: u64) -> Event
-    ensures { MatchOption (note_of number notes.old.kept.items) (event_words result ≡ no_note_words number) (λ _. event_words result ≡ written_off_words) }
+    ensures told { MatchOption (note_of number notes.old.kept.items) (event_words result ≡ no_note_words number) (λ _. event_words result ≡ written_off_words) }
+    ensures notes { TakesOut number notes.old.kept.items notes.new.kept.items }
 {
     match notes.take(number) {
         Some(kept) => {
@@ -261,7 +259,8 @@ fn numbered(submitted: Result<u32, Refusal>) -> Event
 
 // The rule that a frame met at the host.
 fn host_event(notes: &mut Notes, heard: Heard) -> Result<Event, AllocError>
-    ensures { IfOk result (λ e. event_words e ≡ heard_words heard (next_number notes.old)) }
+    ensures told { IfOk result (λ e. event_words e ≡ heard_words heard (next_number notes.old)) }
+    ensures kept { OnOk result (Keeps (rule_doubt heard) notes.old notes.new) }
 {
     match heard {
         Heard::Stale => Ok(Event::Met(Met::Stale)),
@@ -277,7 +276,8 @@ fn host_event(notes: &mut Notes, heard: Heard) -> Result<Event, AllocError>
 
 // The link went down: the note for the block that was on its way is kept.
 fn down(notes: &mut Notes, fall: Fall) -> Result<Event, AllocError>
-    ensures { IfOk result (λ e. event_words e ≡ fall_words fall (next_number notes.old)) }
+    ensures told { IfOk result (λ e. event_words e ≡ fall_words fall (next_number notes.old)) }
+    ensures kept { OnOk result (Keeps fall.doubt notes.old notes.new) }
 {
     let Fall { cause, doubt } = fall;
     let Some(note) = doubt else {

@@ -1,4 +1,7 @@
 // What a line of a script says.
+ghost use Rattle.std.specs.Prelude.{◌≡◌};
+ghost use Rattle.script.specs.Verbs.{host_verb, tnc_verb};
+
 use crate::digits::Hex;
 use crate::name::{HostVerb, Place, TncVerb};
 
@@ -50,7 +53,9 @@ pub enum Command<'a> {
 
 impl HostCall<'_> {
     /// Which call it is.
-    pub fn verb(&self) -> HostVerb {
+    pub fn verb(&self) -> HostVerb
+        ensures { result ≡ host_verb self.now }
+    {
         match self {
             HostCall::Open => HostVerb::Open,
             HostCall::Step => HostVerb::Step,
@@ -66,7 +71,9 @@ impl HostCall<'_> {
 
 impl TncCall<'_> {
     /// Which call it is.
-    pub fn verb(&self) -> TncVerb {
+    pub fn verb(&self) -> TncVerb
+        ensures { result ≡ tnc_verb self.now }
+    {
         match self {
             TncCall::Hear(_) => TncVerb::Hear,
             TncCall::Submit { .. } => TncVerb::Submit,

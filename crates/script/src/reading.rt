@@ -6,7 +6,9 @@ ghost use Rattle.script.specs.Said.{said_by, host_said, tnc_said, line_says, sto
 
 use crate::command::{Command, HostCall, Setup, TncCall};
 use crate::digits::Hex;
-use crate::name::{FIRSTS, First, HOST_VERBS, HostVerb, KINDS, Kind, PLACES, TNC_VERBS, TncVerb, one_named};
+use crate::name::{
+    FIRSTS, First, HOST_VERBS, HostVerb, KINDS, Kind, PLACES, TNC_VERBS, TncVerb, one_named,
+};
 use crate::number::number;
 use crate::unreadable::Unreadable;
 use crate::words::{is_blank, split_word, uncommented};

@@ -21,6 +21,8 @@ pub enum Unreadable {
     OddHex,
     /// Something else than hexadecimal digits where bytes stand.
     NoHex,
+    /// A set-up after the first call. No line by itself is one: whoever makes the calls says so.
+    LateSetup,
 }
 
 impl fmt::Display for Unreadable {
@@ -35,6 +37,7 @@ impl fmt::Display for Unreadable {
             Unreadable::LargeNumber => "the number is too large",
             Unreadable::OddHex => "an odd number of hexadecimal digits",
             Unreadable::NoHex => "not hexadecimal digits",
+            Unreadable::LateSetup => "a set-up after the first call",
         })
     }
 }

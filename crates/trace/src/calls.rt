@@ -9,6 +9,7 @@ use script::command::{Command, HostCall, TncCall};
 use script::digits::Hex;
 use script::name::Named;
 use script::reading::read;
+use script::unreadable::Unreadable;
 use std::alloc::Global;
 use std::io;
 use std::io::{Read, Write};
@@ -57,7 +58,7 @@ impl<W: Write + Drop> Caller<'_, '_, W> {
     fn line(&mut self, buffers: &mut Buffers, number: u64, line: &[u8]) -> io::Result<()> {
         match read(line) {
             Ok(Command::Nothing) => Ok(()),
-            Ok(Command::Setup(_)) => self.teller.late_setup(number),
+            Ok(Command::Setup(_)) => self.teller.unreadable(number, Unreadable::LateSetup),
             Ok(Command::Wire(length)) => {
                 buffers.set_wire(length)?;
                 Ok(())
@@ -78,7 +79,9 @@ impl<W: Write + Drop> Caller<'_, '_, W> {
         let event = match call {
             HostCall::Open => self.session.host_open(buffers.wire.as_mut_slice())?,
             HostCall::Step => self.session.host_step(buffers.wire.as_mut_slice())?,
-            HostCall::Timer => self.session.host_timer(self.notes, buffers.wire.as_mut_slice())?,
+            HostCall::Timer => self
+                .session
+                .host_timer(self.notes, buffers.wire.as_mut_slice())?,
             HostCall::Hear(bytes) => return self.host_hear(number, bytes),
             HostCall::Submit { channel, block } => {
                 let block = block.bytes(self.alloc)?;
@@ -89,7 +92,9 @@ impl<W: Write + Drop> Caller<'_, '_, W> {
                 self.session.host_again(self.notes, note, block.as_slice())?
             }
             HostCall::WriteOff { note } => host_write_off(self.notes, note),
-            HostCall::Collect { channel } => self.session.host_collect(channel, buffers.block.as_mut_slice())?,
+            HostCall::Collect { channel } => self
+                .session
+                .host_collect(channel, buffers.block.as_mut_slice())?,
         };
         self.teller.called(number, "host", verb, event)
     }
@@ -113,7 +118,9 @@ impl<W: Write + Drop> Caller<'_, '_, W> {
                 let block = block.bytes(self.alloc)?;
                 self.session.tnc_submit(channel, block.as_slice())
             }
-            TncCall::Collect { channel } => self.session.tnc_collect(channel, buffers.block.as_mut_slice())?,
+            TncCall::Collect { channel } => self
+                .session
+                .tnc_collect(channel, buffers.block.as_mut_slice())?,
         };
         self.teller.called(number, "tnc", verb, event)
     }

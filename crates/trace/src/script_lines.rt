@@ -1,6 +1,6 @@
 // The lines of a script, one at a time: no more than one is kept.
-use std::io;
 use std::alloc::Global;
+use std::io;
 use std::io::{BufRead, BufReader, Read};
 
 /// A script by lines, with the current line and its number.

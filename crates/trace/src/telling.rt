@@ -1,9 +1,9 @@
 // What is told: one line for each event.
 use replay::event::Event;
 use script::unreadable::Unreadable;
+use std::alloc::Global;
 use std::fmt::Display;
 use std::io;
-use std::alloc::Global;
 use std::io::{BufWriter, Write};
 use std::process::ExitCode;
 
@@ -35,12 +35,6 @@ impl<W: Write + Drop> Teller<W> {
     /// What a byte came to, by its place among the bytes of the line.
     pub fn heard(&mut self, line: u64, end: &str, place: usize, event: Event) -> io::Result<()> {
         writeln!(self.out, "{line} {end} hear byte {place} {event}")
-    }
-
-    /// A set-up that comes too late.
-    pub fn late_setup(&mut self, line: u64) -> io::Result<()> {
-        self.unreadable = true;
-        writeln!(self.out, "{line} unreadable: a set-up after the first call")
     }
 
     /// Why a line can't be read.
