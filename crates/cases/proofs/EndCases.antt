@@ -1,11 +1,11 @@
 -- The cases of the ends, each from the rules by which they act.
-use Rattle.std.proofs.Common.{◌≡◌, ℕ, suc, ◌<◌, ◌≤◌, refl, ap, ◌∙◌, arith, Some, None, Option, Ok}
+use Rattle.std.proofs.Common.{◌≡◌, ℕ, suc, ◌<◌, ◌≤◌, refl, ap, ◌∙◌, arith, None, Option, Ok}
 use Rattle.std.proofs.lemmas.Bool.{cond-false, le-ltb}
 use Rattle.wire.specs.Wire.{longest_wire}
-use Rattle.store.specs.Meaning.{Block, Meaning}
+use Rattle.store.specs.Meaning.{Meaning}
 use Rattle.ends.specs.Limits.{last_number}
 use Rattle.ends.specs.Frames.{Load, poll, information, Request, cargo_of}
-use Rattle.ends.specs.Blocks.{Word, silent, doubts, doubt_of, leaves, one_more_counted}
+use Rattle.ends.specs.Blocks.{Word, silent, doubts, doubt_of, leaves, one_more_counted, counts}
 use Rattle.ends.specs.Host.{State, opening, on_its_way, aboard, aboard_on, Host, HostStep, Sending, gives_up, timer_rule, loss_word, goes_down, by_timer, timer_call}
 use Rattle.ends.specs.Tnc.{waiting_to}
 use Rattle.host.specs.declared.note.DoubtNote.{DoubtNote}
@@ -27,6 +27,7 @@ timed_down size h out inn handed word rule lost by wide =
           ∙ ap (λ (n : Option DoubtNote). Ok (Down (record { cause = RepeatsUsed; doubt = n }))) by;
       state = ap (λ (s : HostStep). s.host.state) goes;
       word_is = ap (λ (s : HostStep). s.word) goes ∙ lost;
+      gone_is = ap (λ (s : HostStep). s.host.gone) goes ∙ ap (λ (w : Word). counts w h.gone) lost;
       out_is = ap (λ (s : HostStep). s.out) goes ∙ ap (λ (w : Word). leaves w out) lost;
       inn_is = ap (λ (s : HostStep). s.inn) goes;
       wrote = ap (λ (s : HostStep). s.wrote) goes;

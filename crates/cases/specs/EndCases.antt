@@ -1,10 +1,10 @@
 -- The cases of the two ends that are proved, together, as one fact of the rules that their contracts cite.
-use Rattle.std.specs.Prelude.{◌≡◌, ℕ, suc, ◌<◌, ◌≤◌, false, List, [], ◌∷◌, Some, None, Option, Ok}
+use Rattle.std.specs.Prelude.{◌≡◌, ℕ, suc, ◌<◌, ◌≤◌, false, [], ◌∷◌, Some, None, Option, Ok}
 use Rattle.wire.specs.Wire.{longest_wire}
 use Rattle.store.specs.Meaning.{Block, Meaning, empty}
 use Rattle.ends.specs.Limits.{last_number}
-use Rattle.ends.specs.Frames.{poll, information, Request, Answer, answer_body, Written, nothing, one}
-use Rattle.ends.specs.Blocks.{Word, silent, doubts, leaves}
+use Rattle.ends.specs.Frames.{poll, information, Request, Answer, answer_body, nothing, one}
+use Rattle.ends.specs.Blocks.{Word, silent, doubts, leaves, counts}
 use Rattle.ends.specs.Host.{opening, on_its_way, down, Host, reset_request, timer_call}
 use Rattle.ends.specs.Tnc.{new_tnc, tnc_step}
 use Rattle.host.specs.declared.note.DoubtNote.{DoubtNote}
@@ -12,11 +12,13 @@ use Rattle.host.specs.declared.answer.Cause.TheVariants.{RepeatsUsed}
 use Rattle.host.specs.declared.answer.Timed.TheVariants.{Down}
 use Rattle.host.specs.Answers.{timer_answer}
 
--- a timer takes the link down by cause 1 and writes nothing; it hands out that note, and names that block, which leaves its store
+-- a timer takes the link down by cause 1 and writes nothing; it hands out that note, and names that block, which leaves its
+-- store and counts as gone
 pub record TimedDown (size : ℕ) (h : Host) (out inn : Meaning) (handed : Option DoubtNote) (word : Word) : Type 0 where
   pub answer : timer_answer h size ≡ Ok (Down (record { cause = RepeatsUsed; doubt = handed }))
   pub state : (timer_call size h out inn).host.state ≡ down
   pub word_is : (timer_call size h out inn).word ≡ word
+  pub gone_is : (timer_call size h out inn).host.gone ≡ counts word h.gone
   pub out_is : (timer_call size h out inn).out ≡ leaves word out
   pub inn_is : (timer_call size h out inn).inn ≡ inn
   pub wrote : (timer_call size h out inn).wrote ≡ nothing
