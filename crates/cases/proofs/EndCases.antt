@@ -53,6 +53,6 @@ end_cases_hold = record {
   first_timer_poll = λ size h out inn q setting state load wide. timed_down size h out inn None silent (rule_of h (on_its_way q 0) setting state) (lost_by h q poll state load) refl wide;
   first_timer_block = λ size h out inn q b setting state load low wide.
       timed_down size h out inn _ (doubts q.channel (suc (h.gone q.channel))) (rule_of h (on_its_way q 0) setting state)
-          (lost_by h q (information b) state load ∙ ap (doubts q.channel) (counted (h.gone q.channel) low)) refl wide;
+      (lost_by h q (information b) state load ∙ ap (doubts q.channel) (counted (h.gone q.channel) low)) refl wide;
   empty_list_answer = λ out_limit in_limit. (_, refl, refl);
 }
