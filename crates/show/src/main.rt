@@ -9,15 +9,22 @@ mod script;
 mod session;
 mod words;
 
-use crate::session::{CHANNEL, REPEATS, Session};
+use crate::session::{CHANNEL, Session};
 use anyhow::{Result, anyhow};
+use host::note::DoubtNote;
+use link::call::Stores;
 use link::pair::Pair;
 use order::blocks::block_count;
 use order::words::Kind;
+use shelf::Shelf;
 use std::alloc::Global;
 use std::io;
 use std::io::Read;
+use store::Store;
 use strip::{RECORD, Strip};
+
+// How often the terminal repeats a frame.
+const REPEATS: u8 = 3;
 
 // The area of a strip: room for four blocks.
 const AREA: usize = 4 * RECORD;
@@ -31,12 +38,16 @@ fn main(rt: HostRuntime) -> Result<()> {
     )?;
     let mut terminal_area = [0; AREA];
     let mut modem_area = [0; AREA];
-    let terminal_in = strip_over(&mut terminal_area)?;
-    let modem_out = strip_over(&mut modem_area)?;
-    let pair = pair_of(rt.alloc())?;
-    let mut session = Session::new(&rt, text.as_slice(), pair, terminal_in, modem_out);
-    session.run()?;
-    session.sheet()
+    let mut stores = Stores {
+        host_out: Shelf::new(),
+        host_in: strip_over(&mut terminal_area)?,
+        tnc_out: strip_over(&mut modem_area)?,
+        tnc_in: Shelf::new(),
+    };
+    let mut pair = pair_of(rt.alloc())?;
+    let mut session = Session::new(&rt, text.as_slice());
+    play(&mut pair, &mut stores, &mut session)?;
+    session.sheet(&pair, &stores)
 }
 
 // The order from standard input, or one of our own.
@@ -49,6 +60,13 @@ fn order_text(rt: &HostRuntime) -> io::Result<Vec<u8>> {
     Ok(text)
 }
 
+fn strip_over(area: &mut [u8]) -> Result<Strip<'_>> {
+    match Strip::over(area) {
+        Ok(strip) => Ok(strip),
+        Err(refusal) => Err(anyhow!("no strip is made: refusal {}", refusal.number())),
+    }
+}
+
 fn pair_of(heap: Global) -> Result<Pair> {
     match Pair::new(heap, REPEATS) {
         Ok(pair) => Ok(pair),
@@ -56,9 +74,27 @@ fn pair_of(heap: Global) -> Result<Pair> {
     }
 }
 
-fn strip_over(area: &mut [u8]) -> Result<Strip<'_>> {
-    match Strip::over(area) {
-        Ok(strip) => Ok(strip),
-        Err(refusal) => Err(anyhow!("no strip is made: refusal {}", refusal.number())),
+// Plays what the session calls for, a list of calls after the other, until it calls for nothing more.
+fn play<A: Store, B: Store, C: Store, D: Store>(
+    pair: &mut Pair,
+    stores: &mut Stores<A, B, C, D>,
+    session: &mut Session<'_>,
+) -> Result<()> {
+    let mut held = None;
+    for _ in 0..u64::MAX {
+        let calls = session.next_calls(pair);
+        if calls.is_empty() {
+            break;
+        }
+        let note = pair.play(stores, held, calls.as_slice(), session);
+        held = session.settle(note);
+    }
+    write_off(held);
+    session.outcome()
+}
+
+fn write_off(held: Option<DoubtNote>) {
+    if let Some(note) = held {
+        note.write_off();
     }
 }

@@ -66,17 +66,33 @@ fn store_words(refusal: StoreRefusal) -> &'static str {
 }
 
 /// One line for what a hear refuses.
-pub fn tell_refusal(rt: &HostRuntime, end: &str, refusal: Refusal) -> io::Result<()> {
-    if let Refusal::Reader(fault) = refusal {
-        return println!(rt;
+pub fn tell_dropped(rt: &HostRuntime, end: &str, refusal: Refusal) -> io::Result<()> {
+    match refusal {
+        Refusal::Reader(fault) => println!(rt;
             "{end}, hears: fault {} after {}: {}. The frame is dropped.",
             fault.number(),
             Kind::Byte.of(usize::from(fault.count)),
             fault.reason
-        );
+        ),
+        Refusal::Store(_)
+        | Refusal::FlaggedFrame
+        | Refusal::BeforeReset
+        | Refusal::NoRoom
+        | Refusal::ShortWire
+        | Refusal::NumbersUsed
+        | Refusal::WrongState
+        | Refusal::ManyRepeats => println!(rt;
+            "{end}, hears: refusal {}: {}.",
+            refusal.number(),
+            refusal_words(refusal)
+        ),
     }
+}
+
+/// One line for what another call refuses.
+pub fn tell_refused(rt: &HostRuntime, call: &str, refusal: Refusal) -> io::Result<()> {
     println!(rt;
-        "{end}, hears: refusal {}: {}.",
+        "{call}: refusal {}: {}.",
         refusal.number(),
         refusal_words(refusal)
     )

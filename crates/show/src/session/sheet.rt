@@ -3,24 +3,30 @@ use super::{CHANNEL, Session};
 use crate::own::{GREETING, REPLY};
 use crate::session::compared::{Compared, confirmed_count};
 use anyhow::Result;
+use link::call::Stores;
 use link::log::Gap;
+use link::pair::Pair;
 use link::way::Way;
 use order::words::Kind;
 use store::Store;
 
-impl<I: Store, O: Store> Session<'_, I, O> {
+impl Session<'_> {
     /// Prints the sheet.
-    pub fn sheet(&self) -> Result<()> {
-        let log = self.pair.log();
-        let left = self.pair.host().waiting(CHANNEL);
-        let there = self.modem_in.count(CHANNEL);
+    pub fn sheet<A: Store, B: Store, C: Store, D: Store>(
+        &self,
+        pair: &Pair,
+        stores: &Stores<A, B, C, D>,
+    ) -> Result<()> {
+        let log = pair.log();
+        let left = pair.host().waiting(CHANNEL);
+        let there = stores.tnc_in.count(CHANNEL);
         self.tell_way("Terminal to modem", log.from_host().way(), left, there)?;
-        let left = self.pair.tnc().waiting(CHANNEL);
-        let there = self.terminal_in.count(CHANNEL);
+        let left = pair.tnc().waiting(CHANNEL);
+        let there = stores.host_in.count(CHANNEL);
         self.tell_way("Modem to terminal", log.from_tnc().way(), left, there)?;
-        self.tell_order()?;
-        self.tell_texts()?;
-        self.tell_gap()
+        self.tell_order(log.from_host().way())?;
+        self.tell_texts(log.from_tnc().way())?;
+        self.tell_gap(log.gap())
     }
 
     // All blocks of one way; they all go by one channel.
@@ -40,8 +46,7 @@ impl<I: Store, O: Store> Session<'_, I, O> {
     }
 
     // The modem's collected blocks against those of the order.
-    fn tell_order(&self) -> Result<()> {
-        let way = self.pair.log().from_host().way();
+    fn tell_order(&self, way: &Way) -> Result<()> {
         let compared = Compared::of(self.rt.alloc(), self.text, self.carried.as_slice(), way)?;
         println!(self.rt;
             "The order as collected, block by block: {} came once, {} lost, {} doubled.",
@@ -64,9 +69,9 @@ impl<I: Store, O: Store> Session<'_, I, O> {
     }
 
     // What the terminal collected, against the modem's texts.
-    fn tell_texts(&self) -> Result<()> {
+    fn tell_texts(&self, way: &Way) -> Result<()> {
         let mut came = Vec::new(self.rt.alloc());
-        for posted in self.pair.log().from_tnc().way().collected() {
+        for posted in way.collected() {
             came.extend_from_slice(posted.block.as_slice())?;
         }
         let mut texts = Vec::from_slice(self.rt.alloc(), GREETING.as_bytes())?;
@@ -80,8 +85,8 @@ impl<I: Store, O: Store> Session<'_, I, O> {
         Ok(())
     }
 
-    fn tell_gap(&self) -> Result<()> {
-        let words = match self.pair.log().gap() {
+    fn tell_gap(&self, gap: Option<Gap>) -> Result<()> {
+        let words = match gap {
             None => "none, so the delivery law holds of this run",
             Some(Gap::LineRule) => "a frame passed that the line may not bring",
             Some(Gap::NoMemory) => "there was no memory for it",
