@@ -39,7 +39,7 @@ impl Session<'_> {
             }
             Answer::TncHeard(Ok(Some(heard))) => self.modem_meets(*heard, &buffers.wire),
             Answer::TncHeard(Err(refusal)) => Ok(tell_dropped(self.rt, "Modem", *refusal)?),
-            Answer::TncSubmitted(Ok(name)) => self.modem_submitted(offered(call), *name),
+            Answer::TncSubmitted(Ok(name)) => self.modem_submitted(length_handed(call), *name),
             Answer::TncSubmitted(Err(refusal)) => no_way_on("submit", *refusal),
             Answer::TncCollected(Ok(len)) => self.modem_collected(*len),
             Answer::TncCollected(Err(refusal)) => {
@@ -67,7 +67,7 @@ impl Session<'_> {
 }
 
 // How long the block is that a call hands over.
-fn offered(call: &Call) -> usize {
+fn length_handed(call: &Call) -> usize {
     match call {
         Call::HostSubmit { channel: _, block } => block.len(),
         Call::HostSubmitAgain { block } => block.len(),
