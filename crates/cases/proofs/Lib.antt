@@ -1,3 +1,4 @@
 -- The lemmas of the cases.
 pub mod Proved
 mod StoreCases
+mod EndCases

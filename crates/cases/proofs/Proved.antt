@@ -15,6 +15,7 @@ use Rattle.reader.specs.Read.{at, fresh, fault_of, hears}
 use Rattle.reader.specs.Laws.{after}
 use Rattle.cases.specs.Proved.{information, ProvedCases}
 use Rattle.cases.proofs.StoreCases.{store_cases_hold}
+use Rattle.cases.proofs.EndCases.{end_cases_hold}
 
 goes : (d : Direction) (f : Frame) (body before buffer : List ℕ) (r : Result ℕ Refusal) → Body d body f → Writes d f before buffer r → length before ≡ 521 → (n : ℕ) × (r ≡ Ok n)
 goes d f body before buffer (Ok n) b w e = (n, refl)
@@ -53,4 +54,5 @@ proved_cases_hold = record {
   code_87 = (refl, refl, refl);
   empty_list_body = refl;
   stores = store_cases_hold;
+  ends = end_cases_hold;
 }

@@ -1,3 +1,4 @@
 -- The cases that are proved.
 pub mod StoreCases
+pub mod EndCases
 pub mod Proved

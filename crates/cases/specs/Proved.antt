@@ -14,6 +14,7 @@ use Rattle.reader.specs.Fault.{fault_number}
 use Rattle.reader.specs.Read.{at, fresh, fault_of, hears}
 use Rattle.reader.specs.Laws.{after}
 use Rattle.cases.specs.StoreCases.{StoreCases}
+use Rattle.cases.specs.EndCases.{EndCases}
 
 -- a frame of the host on channel 33
 abbrev pub information : List ℕ → Frame
@@ -43,3 +44,5 @@ pub record ProvedCases : Type 0 where
   pub empty_list_body : body_of form.Text empty_list ≡ 255 ∷ 65 ∷ 0 ∷ []
   -- those of the stores
   pub stores : StoreCases
+  -- those of the ends
+  pub ends : EndCases

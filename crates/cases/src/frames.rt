@@ -7,8 +7,8 @@ use std::process::Abort;
 use std::test::Fail;
 
 pub mod case;
-mod host;
-mod tnc;
+mod from_host;
+mod from_tnc;
 
 // A frame of either direction is written as its row has it, and heard and read so. (Which type of frames it is can't be a
 // parameter here: that type has the lifetime of the payload, which is this function's own.)
@@ -38,7 +38,7 @@ fn check_frame(
 
 #[test]
 fn host_frames(rt: HostRuntime) -> Result<(), Fail> {
-    host::FRAMES.iter().enumerate().try_for_each(|(row, case)| check_frame(
+    from_host::FRAMES.iter().enumerate().try_for_each(|(row, case)| check_frame(
         &rt,
         rt.alloc(),
         row,
@@ -49,7 +49,7 @@ fn host_frames(rt: HostRuntime) -> Result<(), Fail> {
 
 #[test]
 fn tnc_frames(rt: HostRuntime) -> Result<(), Fail> {
-    tnc::FRAMES.iter().enumerate().try_for_each(|(row, case)| check_frame(
+    from_tnc::FRAMES.iter().enumerate().try_for_each(|(row, case)| check_frame(
         &rt,
         rt.alloc(),
         row,

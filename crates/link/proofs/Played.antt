@@ -12,17 +12,17 @@ again_reached : (b : List ℕ) (note after : Option DoubtNote) {p q : Pair} {m n
 again_reached b None after {p} {q} {m} {n} made r = subst (λ (x : Stores). Reached q x) (sym made.1) (subst (λ (x : Pair). Reached x m) (sym made.0) r)
 again_reached b (Some note) after made r = λ whole. made.0.after
 
-one_reached : (k : Call) (note after : Option DoubtNote) {p q : Pair} {m n : Stores} → MadeBy k p m note q n after → Reached p m → Reached q n
-one_reached call.HostOpen note after made r = λ whole. made.0.after
-one_reached call.HostStep note after made r = λ whole. made.0.after
-one_reached call.HostTimer note after made r = λ whole. made.0.after
-one_reached (call.HostHear byte place) note after made r = λ whole. made.0.after
-one_reached (call.HostSubmit c b) note after made r = λ whole. made.0.after
-one_reached (call.HostSubmitAgain b) note after made r = again_reached b.now note after made r
-one_reached (call.HostCollect c) note after made r = λ whole. made.0.after
-one_reached (call.TncHear byte place) note after made r = λ whole. made.0.after
-one_reached (call.TncSubmit c b) note after made r = λ whole. made.0.after
-one_reached (call.TncCollect c) note after made r = λ whole. made.0.after
+one_reached : (k : Call) (old after : Option DoubtNote) {p q : Pair} {m n : Stores} → MadeBy k p m old q n after → Reached p m → Reached q n
+one_reached call.HostOpen old after made r = λ whole. made.0.after
+one_reached call.HostStep old after made r = λ whole. made.0.after
+one_reached call.HostTimer old after made r = λ whole. made.0.after
+one_reached (call.HostHear byte place) old after made r = λ whole. made.0.after
+one_reached (call.HostSubmit c b) old after made r = λ whole. made.0.after
+one_reached (call.HostSubmitAgain b) old after made r = again_reached b.now old after made r
+one_reached (call.HostCollect c) old after made r = λ whole. made.0.after
+one_reached (call.TncHear byte place) old after made r = λ whole. made.0.after
+one_reached (call.TncSubmit c b) old after made r = λ whole. made.0.after
+one_reached (call.TncCollect c) old after made r = λ whole. made.0.after
 
 all_reached : {p : Pair} {m : Stores} {note : Option DoubtNote} {ks : List Call} {q : Pair} {n : Stores} {after : Option DoubtNote} → Played p m note ks q n after → Reached p m → Reached q n
 all_reached none r = r

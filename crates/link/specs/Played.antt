@@ -64,8 +64,8 @@ note_of answer.NoNote = None
 
 -- the note that is held after it: a new one takes the place of the one before
 abbrev pub later : Option DoubtNote → Option DoubtNote → Option DoubtNote
-later note None = note
-later note (Some new) = Some new
+later held None = held
+later held (Some new) = Some new
 
 -- a submission once more, by the note that is held; where none is, there is no call
 abbrev pub AgainBy : List ℕ → Option DoubtNote → Pair → Stores → Pair → Stores → Option DoubtNote → Type 0

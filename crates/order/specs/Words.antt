@@ -1,10 +1,8 @@
--- How numbers are written with their words, and why an order is not sent.
+-- How numbers are written with their words.
 use Rattle.std.specs.Prelude.{ℕ, List, ◌++◌, cond, ◌==◌, codes, decimal}
 use Rattle.order.specs.declared.words.Kind.{Kind}
 use Rattle.order.specs.declared.words.Kind.TheVariants.{Byte, Block}
 use Rattle.order.specs.declared.words.Counted.{Counted}
-use Rattle.order.specs.declared.send.SendError.{SendError}
-use Rattle.order.specs.declared.send.SendError.TheVariants.{Refused, NoMemory}
 
 abbrev pub counted : ℕ → Kind → Counted
 counted n k = record { number = n; kind = k }
@@ -20,7 +18,3 @@ many_of Block = codes "blocks"
 
 abbrev pub words_of : Counted → List ℕ
 words_of c = decimal c.number ++ (codes " " ++ cond (c.number == 1) (one_of c.kind) (many_of c.kind))
-
-abbrev pub why_not_sent : SendError → List ℕ
-why_not_sent (Refused why) = codes "no frame carries a block of it"
-why_not_sent NoMemory = codes "there is no memory for it"

@@ -1,9 +1,5 @@
-// A provision order on the line: cut into blocks, sent through noise, and put together again.
+// A provision order: cut into blocks, and numbers of its bytes and blocks in words.
 #![tactic(auto)]
 
 pub mod blocks;
-pub mod line;
-pub mod noise;
-pub mod receive;
-pub mod send;
 pub mod words;

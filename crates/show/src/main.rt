@@ -1,58 +1,53 @@
-// An order goes from the terminal over a noisy line to the modem, and what passes on the way is told in words. What came is
-// kept in a store of each kind, and collected.
+// An order goes from the terminal to the modem over a line with noise, loss and repeats, and the modem's side replies. What each
+// call answers is told in words, and at the end what became of every block.
 #![tactic(auto)]
 
-mod keeping;
+mod cargo;
+mod line;
 mod own;
+mod script;
+mod session;
+mod words;
 
-use crate::keeping::Keeper;
+use crate::session::{CHANNEL, Session};
+use anyhow::{Result, anyhow};
+use host::note::DoubtNote;
+use link::call::Stores;
+use link::pair::Pair;
 use order::blocks::block_count;
-use order::receive::{Event, HearError, Receiver};
-use order::send::{CHANNEL, send};
 use order::words::Kind;
-use reader::fault::Fault;
 use shelf::Shelf;
+use std::alloc::Global;
 use std::io;
 use std::io::Read;
+use store::Store;
 use strip::{RECORD, Strip};
 
-// The area of the strip that the order is kept in: room for four blocks.
+// How often the terminal repeats a frame.
+const REPEATS: u8 = 3;
+
+// The area of a strip: room for four blocks.
 const AREA: usize = 4 * RECORD;
 
-// What came over the line so far.
-#[derive(Clone, Copy, Default)]
-struct Tally {
-    blocks: usize,
-    repeats: usize,
-    dropped: usize,
-}
-
-impl Tally {
-    fn count(&mut self, heard: Result<Event, HearError>) {
-        let counter = match heard {
-            Ok(Event::Block(_, _)) => &mut self.blocks,
-            Ok(Event::Repeat(_)) => &mut self.repeats,
-            Err(HearError::Line(_)) => &mut self.dropped,
-            Ok(Event::More | Event::Other) | Err(HearError::NoMemory) => return,
-        };
-        *counter = counter.saturating_add(1);
-    }
-}
-
-fn main(rt: HostRuntime) -> io::Result<()> {
+fn main(rt: HostRuntime) -> Result<()> {
     let text = order_text(&rt)?;
     println!(rt;
-        "Order: {} in {} for channel {CHANNEL}.",
+        "Order: {} in {} for channel {CHANNEL}. The terminal repeats a frame {REPEATS} times at most.",
         Kind::Byte.of(text.len()),
         Kind::Block.of(block_count(text.as_slice()))
     )?;
-    match send(rt.alloc(), text.as_slice()) {
-        Ok(line) => {
-            deliver(&rt, text.as_slice(), line.as_slice())?;
-            keep(&rt, text.as_slice(), line.as_slice())
-        }
-        Err(error) => println!(rt; "The order was not sent: {error}."),
-    }
+    let mut terminal_area = [0; AREA];
+    let mut modem_area = [0; AREA];
+    let mut stores = Stores {
+        host_out: Shelf::new(),
+        host_in: strip_over(&mut terminal_area)?,
+        tnc_out: strip_over(&mut modem_area)?,
+        tnc_in: Shelf::new(),
+    };
+    let mut pair = pair_of(rt.alloc())?;
+    let mut session = Session::new(&rt, text.as_slice());
+    play(&mut pair, &mut stores, &mut session)?;
+    session.sheet(&pair, &stores)
 }
 
 // The order from standard input, or one of our own.
@@ -65,83 +60,41 @@ fn order_text(rt: &HostRuntime) -> io::Result<Vec<u8>> {
     Ok(text)
 }
 
-// Hears the line at the modem, and tells what comes.
-fn deliver(rt: &HostRuntime, text: &[u8], line: &[u8]) -> io::Result<()> {
-    println!(rt; "Line: {} bytes, noisy as at an engine start.", line.len())?;
-    let of = block_count(text);
-    let mut receiver = Receiver::new(rt.alloc());
-    let mut tally = Tally::default();
-    for (i, byte) in line.iter().enumerate() {
-        let heard = receiver.hear(*byte);
-        tally.count(heard);
-        tell(rt, i + 1, heard, tally.blocks, of)?;
-    }
-    conclude(rt, tally, &receiver, text)
-}
-
-// One line for each frame and each fault.
-fn tell(
-    rt: &HostRuntime,
-    place: usize,
-    heard: Result<Event, HearError>,
-    block: usize,
-    of: usize,
-) -> io::Result<()> {
-    match heard {
-        Ok(Event::More) => Ok(()),
-        Ok(Event::Block(len, toggle)) => println!(rt;
-            "byte {place}: block {block} of {of} passed, {}, toggle {}.",
-            Kind::Byte.of(len),
-            u8::from(toggle)
-        ),
-        Ok(Event::Repeat(toggle)) => println!(rt;
-            "byte {place}: block {block} of {of} once more, toggle {}. The order has it already.",
-            u8::from(toggle)
-        ),
-        Ok(Event::Other) => println!(rt;
-            "byte {place}: a frame that is no part of the order passed."
-        ),
-        Err(HearError::Line(fault)) => tell_fault(rt, place, fault),
-        Err(HearError::NoMemory) => println!(rt;
-            "byte {place}: a block passed, and there is no memory for it."
-        ),
+fn strip_over(area: &mut [u8]) -> Result<Strip<'_>> {
+    match Strip::over(area) {
+        Ok(strip) => Ok(strip),
+        Err(refusal) => Err(anyhow!("no strip is made: refusal {}", refusal.number())),
     }
 }
 
-fn tell_fault(rt: &HostRuntime, place: usize, fault: Fault) -> io::Result<()> {
-    println!(rt;
-        "byte {place}: fault {} after {}: {}. The frame is dropped.",
-        fault.number(),
-        Kind::Byte.of(usize::from(fault.count)),
-        fault.reason
-    )
-}
-
-fn conclude(rt: &HostRuntime, tally: Tally, receiver: &Receiver, text: &[u8]) -> io::Result<()> {
-    println!(rt;
-        "Blocks taken: {}. Repeats left out: {}. Frames dropped: {}.",
-        tally.blocks, tally.repeats, tally.dropped
-    )?;
-    let came = Kind::Byte.of(receiver.order().len());
-    if receiver.arrived(text) {
-        println!(rt; "The order arrived whole: {came}, the same byte for byte.")
-    } else {
-        println!(rt;
-            "The order did not arrive as it was sent: {came} came, and {} were sent.",
-            text.len()
-        )
+fn pair_of(heap: Global) -> Result<Pair> {
+    match Pair::new(heap, REPEATS) {
+        Ok(pair) => Ok(pair),
+        Err(refusal) => Err(anyhow!("no pair is made: refusal {}", refusal.number())),
     }
 }
 
-// Keeps the order in a store of each kind, and collects it.
-fn keep(rt: &HostRuntime, text: &[u8], line: &[u8]) -> io::Result<()> {
-    Keeper::new(rt, "Shelf", &mut Shelf::new()).keep(line, text)?;
-    let mut area = [0; AREA];
-    match Strip::over(&mut area) {
-        Ok(mut strip) => Keeper::new(rt, "Strip", &mut strip).keep(line, text),
-        Err(refusal) => println!(rt;
-            "No strip is made of {AREA} bytes: refusal {}.",
-            refusal.number()
-        ),
+// Plays what the session calls for, a list of calls after the other, until it calls for nothing more.
+fn play<A: Store, B: Store, C: Store, D: Store>(
+    pair: &mut Pair,
+    stores: &mut Stores<A, B, C, D>,
+    session: &mut Session<'_>,
+) -> Result<()> {
+    let mut held = None;
+    for _ in 0..u64::MAX {
+        let calls = session.next_calls(pair);
+        if calls.is_empty() {
+            break;
+        }
+        let note = pair.play(stores, held, calls.as_slice(), session);
+        held = session.settle(note);
+    }
+    write_off(held);
+    session.outcome()
+}
+
+fn write_off(held: Option<DoubtNote>) {
+    if let Some(note) = held {
+        note.write_off();
     }
 }

@@ -1,5 +1,16 @@
-// The order that is sent where standard input is empty: long enough for three blocks.
+// The program's own texts: what either side says beside the order, and the order that is sent where standard input is empty, which is long
+// enough for three blocks.
 
+/// What waits at the modem before the link opens.
+pub const GREETING: &str = "The agent stands by for orders.";
+
+/// What the modem's side sends when the order is there.
+pub const REPLY: &str = "CONFIRMED. The goods come alongside as ordered.";
+
+/// The terminal's last word.
+pub const FAREWELL: &str = "Thank you. We sail as announced.";
+
+/// The order.
 pub const ORDER: &str = "PROVISION ORDER
 Ship: MV Solvei, call sign LBQK4
 For: the agent at Alesund, Flatholmen quay 2
