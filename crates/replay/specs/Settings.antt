@@ -1,5 +1,5 @@
 -- What a script sets up.
-use Rattle.std.specs.Prelude.{◌≡◌, ℕ, ◌<◌, ◌⊎◌, List, ◌++◌, codes, decimal, vec_len, Result, Err}
+use Rattle.std.specs.Prelude.{◌≡◌, ℕ, ◌<◌, ◌⊎◌, List, ◌++◌, codes, decimal, vec_len, Err}
 use Rattle.shelf.specs.Size.{place_count}
 use Rattle.strip.specs.declared.refusal.AreaRefusal.TheVariants.{BadSize}
 use Rattle.strip.specs.Records.{limit_of}
