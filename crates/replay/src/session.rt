@@ -1,8 +1,9 @@
 // Both ends with their stores, and the calls of a script made on them. What a call tells is what the end answers, by the
 // definitions in specs/Told.antt, and it changes what the end's own call changes.
-ghost use Rattle.std.specs.Prelude.{◌≡◌, min, length, IfOk, OnOk, MatchOption};
+ghost use Rattle.std.specs.Prelude.{◌≡◌, cond, min, nat_lt, length, IfOk, OnOk, MatchOption};
 ghost use Rattle.std.specs.Option.{option_map};
 ghost use Rattle.store.specs.Meaning.{Meaning, plain, empty};
+ghost use Rattle.wire.specs.Wire.{longest_wire};
 ghost use Rattle.reader.specs.Read.{hears};
 ghost use Rattle.ends.specs.Ear.{heard_by};
 ghost use Rattle.ends.specs.Blocks.{submit_answer, submit_counts, submit_store, collect_answer, collect_store};
@@ -137,6 +138,7 @@ impl<'a> Session<'a> {
     pub fn host_submit(&mut self, channel: u64, block: &[u8]) -> Event
         ensures told { event_words result ≡ submit_told (submit_answer (host_of self.old.host.link).submitted (meaning_of self.old.host_out) (min channel 255) (plain block.now)) }
         ensures after { host_of self.new.host.link ≡ host_counts (host_of self.old.host.link) (submit_counts (host_of self.old.host.link).submitted (meaning_of self.old.host_out) (min channel 255) (plain block.now)) }
+        ensures ear { self.new.host.ear ≡ self.old.host.ear }
         ensures out { meaning_of self.new.host_out ≡ submit_store (host_of self.old.host.link).submitted (meaning_of self.old.host_out) (min channel 255) (plain block.now) }
         ensures only { self.new ≡ record self.old { host = self.new.host; host_out = self.new.host_out } }
     {
@@ -151,6 +153,8 @@ impl<'a> Session<'a> {
         block: &[u8],
     ) -> Result<Event, AllocError>
         ensures told { IfOk result (λ e. MatchOption (note_of number notes.old.kept.items) (event_words e ≡ no_note_words number) (λ k. event_words e ≡ submit_told (submit_answer (host_of self.old.host.link).submitted (meaning_of self.old.host_out) k.note.channel (plain block.now)))) }
+        ensures after { MatchOption (note_of number notes.old.kept.items) (self.new ≡ self.old) (λ k. host_of self.new.host.link ≡ host_counts (host_of self.old.host.link) (submit_counts (host_of self.old.host.link).submitted (meaning_of self.old.host_out) k.note.channel (plain block.now))) }
+        ensures ear { self.new.host.ear ≡ self.old.host.ear }
         ensures out { MatchOption (note_of number notes.old.kept.items) (self.new ≡ self.old) (λ k. meaning_of self.new.host_out ≡ submit_store (host_of self.old.host.link).submitted (meaning_of self.old.host_out) k.note.channel (plain block.now)) }
         ensures only { self.new ≡ record self.old { host = self.new.host; host_out = self.new.host_out } }
     {
@@ -181,6 +185,7 @@ impl<'a> Session<'a> {
     pub fn tnc_hear(&mut self, byte: u8, wire: &mut [u8]) -> Result<Option<Event>, AllocError>
         ensures told { IfOk result (λ o. option_map event_words o ≡ tnc_told (tnc_rules.hear_answer (length wire.old) (hears (heard_by self.old.tnc.ear) byte) (tnc_of self.old.tnc.link) (meaning_of self.old.tnc_out) (meaning_of self.old.tnc_in)) wire.new) }
         ensures after { tnc_left.Left (tnc_rules.hear_call (length wire.old) (hears (heard_by self.old.tnc.ear) byte) (tnc_of self.old.tnc.link) (meaning_of self.old.tnc_out) (meaning_of self.old.tnc_in)) (tnc_of self.new.tnc.link) (meaning_of self.new.tnc_out) (meaning_of self.new.tnc_in) wire.old wire.new }
+        ensures ear { heard_by self.new.tnc.ear ≡ cond (nat_lt (length wire.old) longest_wire) (heard_by self.old.tnc.ear) (hears (heard_by self.old.tnc.ear) byte).then }
         ensures only { self.new ≡ record self.old { tnc = self.new.tnc; tnc_out = self.new.tnc_out; tnc_in = self.new.tnc_in } }
     {
         match self
@@ -199,6 +204,7 @@ impl<'a> Session<'a> {
     pub fn tnc_submit(&mut self, channel: u64, block: &[u8]) -> Event
         ensures told { event_words result ≡ submit_told (submit_answer (tnc_of self.old.tnc.link).submitted (meaning_of self.old.tnc_out) (min channel 255) (plain block.now)) }
         ensures after { tnc_of self.new.tnc.link ≡ tnc_counts (tnc_of self.old.tnc.link) (submit_counts (tnc_of self.old.tnc.link).submitted (meaning_of self.old.tnc_out) (min channel 255) (plain block.now)) }
+        ensures ear { self.new.tnc.ear ≡ self.old.tnc.ear }
         ensures out { meaning_of self.new.tnc_out ≡ submit_store (tnc_of self.old.tnc.link).submitted (meaning_of self.old.tnc_out) (min channel 255) (plain block.now) }
         ensures only { self.new ≡ record self.old { tnc = self.new.tnc; tnc_out = self.new.tnc_out } }
     {
