@@ -1,5 +1,6 @@
 -- The notes that are not spent.
-use Rattle.std.specs.Prelude.{◌≡◌, ℕ, ◌+◌, ◌-◌, ◌^◌, ◌==◌, min, List, [], ◌∷◌, ◌++◌, Option, Some, None, Result, Ok, Err, find, position, remove, MatchOption}
+use Rattle.std.specs.Prelude.{◌≡◌, ℕ, ◌+◌, ◌-◌, ◌^◌, ◌==◌, min, List, [], ◌∷◌, ◌++◌, Option, Some, None, Result, Ok, Err, find, position, remove, insert, nat_lt, cond, Bool, MatchOption}
+use Rattle.std.specs.List.{position_or_len}
 use Rattle.ends.specs.declared.refusal.Refusal.{Refusal}
 use Rattle.host.specs.declared.note.DoubtNote.{DoubtNote}
 use Rattle.host.specs.declared.answer.Timed.{Timed}
@@ -20,6 +21,13 @@ note_of number notes = find (λ k. k.number == number) notes
 -- that note is taken out, if there is one
 abbrev pub TakesOut : ℕ → List Kept → List Kept → Type 0
 TakesOut number old new = MatchOption (position (λ k. k.number == number) old) (new ≡ old) (λ i. new ≡ remove old i)
+
+-- a note that was taken is spent, or stands again among the others, by its number
+abbrev pub put_among : Kept → List Kept → List Kept
+put_among k notes = insert notes (position_or_len (λ x. nat_lt k.number x.number) notes) k
+
+abbrev pub SpentOrBack : Bool → ℕ → Kept → List Kept → List Kept → Type 0
+SpentOrBack spent number k old new = (left : List Kept) × TakesOut number old left × (new ≡ cond spent left (put_among k left))
 
 -- a note that is handed out now, if one is, is kept as the youngest
 abbrev pub Keeps : Option DoubtNote → Notes → Notes → Type 0

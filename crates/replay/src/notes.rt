@@ -1,5 +1,5 @@
 // The doubt notes that are not spent yet, by the numbers that they got as they were handed out.
-ghost use Rattle.std.specs.Prelude.{◌≡◌, ◌==◌, [], ◌∷◌, ◌++◌, drop, insert, is_ok, nat_lt, if◌then◌else◌, IfOk, OnOk, OnErr, OnSome, slice_get, vec_len, ◌+◌};
+ghost use Rattle.std.specs.Prelude.{◌≡◌, ◌==◌, [], ◌∷◌, ◌++◌, drop, insert, is_ok, nat_lt, if◌then◌else◌, IfOk, OnOk, OnErr, OnSome, MatchOption, slice_get, vec_len, ◌+◌};
 ghost use Rattle.std.specs.List.{position, position_or_len};
 ghost use Rattle.replay.specs.Notes.{next_number, note_of, TakesOut};
 
@@ -49,6 +49,7 @@ impl Notes {
     pub fn take(&mut self, number: u64) -> Option<Kept>
         ensures value { result ≡ note_of number self.old.kept.items }
         ensures rest { TakesOut number self.old.kept.items self.new.kept.items }
+        ensures none { MatchOption result (self.new ≡ self.old) (λ _. Unit {0}) }
         ensures handed { self.new.handed ≡ self.old.handed }
     {
         let i = self.place(number)?;

@@ -6,7 +6,7 @@ ghost use Rattle.store.specs.Meaning.{Meaning, plain, empty};
 ghost use Rattle.wire.specs.Wire.{longest_wire};
 ghost use Rattle.reader.specs.Read.{hears};
 ghost use Rattle.ends.specs.Ear.{heard_by};
-ghost use Rattle.ends.specs.Blocks.{submit_answer, submit_counts, submit_store, collect_answer, collect_store};
+ghost use Rattle.ends.specs.Blocks.{granted, submit_answer, submit_counts, submit_store, collect_answer, collect_store};
 ghost use Rattle.ends.specs.Host.{open_call, step_call, timer_call, host_counts};
 ghost use Rattle.ends.specs.Tnc.{new_tnc, tnc_counts};
 ghost use Rattle.host.specs.Model.{host_of};
@@ -18,7 +18,7 @@ ghost use Rattle.tnc.specs.Hear as tnc_rules;
 ghost use Rattle.tnc.specs.Left as tnc_left;
 ghost use Rattle.replay.specs.AnyStore.{meaning_of};
 ghost use Rattle.replay.specs.Event.{event_words};
-ghost use Rattle.replay.specs.Notes.{next_number, note_of, TakesOut, Keeps, timed_doubt, rule_doubt, heard_doubt};
+ghost use Rattle.replay.specs.Notes.{next_number, note_of, TakesOut, SpentOrBack, Keeps, timed_doubt, rule_doubt, heard_doubt};
 ghost use Rattle.replay.specs.Settings.{limit_chosen};
 ghost use Rattle.replay.specs.Told.{sent_words, collected_words, fall_words, heard_words, open_told, step_told, timer_told, hear_told, tnc_told, submit_told, collect_told, no_note_words, written_off_words};
 
@@ -154,6 +154,8 @@ impl<'a> Session<'a> {
     ) -> Result<Event, AllocError>
         ensures told { IfOk result (λ e. MatchOption (note_of number notes.old.kept.items) (event_words e ≡ no_note_words number) (λ k. event_words e ≡ submit_told (submit_answer (host_of self.old.host.link).submitted (meaning_of self.old.host_out) k.note.channel (plain block.now)))) }
         ensures after { MatchOption (note_of number notes.old.kept.items) (self.new ≡ self.old) (λ k. host_of self.new.host.link ≡ host_counts (host_of self.old.host.link) (submit_counts (host_of self.old.host.link).submitted (meaning_of self.old.host_out) k.note.channel (plain block.now))) }
+        ensures kept { OnOk result (MatchOption (note_of number notes.old.kept.items) (notes.new.kept.items ≡ notes.old.kept.items) (λ k. SpentOrBack (granted (submit_answer (host_of self.old.host.link).submitted (meaning_of self.old.host_out) k.note.channel (plain block.now))) number k notes.old.kept.items notes.new.kept.items)) }
+        ensures handed { notes.new.handed ≡ notes.old.handed }
         ensures ear { self.new.host.ear ≡ self.old.host.ear }
         ensures out { MatchOption (note_of number notes.old.kept.items) (self.new ≡ self.old) (λ k. meaning_of self.new.host_out ≡ submit_store (host_of self.old.host.link).submitted (meaning_of self.old.host_out) k.note.channel (plain block.now)) }
         ensures only { self.new ≡ record self.old { host = self.new.host; host_out = self.new.host_out } }
