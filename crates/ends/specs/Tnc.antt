@@ -11,7 +11,7 @@ use Rattle.ends.specs.Host.{room_for, stores_in}
 
 -- WHAT IT KEEPS
 
--- ready: a reset was heard; last: the toggle of the last frame accepted; held: the answer to it; submitted and gone: counts by channel
+-- ready: a reset was heard; last: the toggle of the last frame accepted or of the last reset; held: the answer to it; submitted and gone: counts by channel
 pub record Tnc : Type 0 where
   pub ready : Bool
   pub last : Bool

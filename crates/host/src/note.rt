@@ -2,8 +2,8 @@
 ghost use Rattle.std.specs.Prelude.{◌≡◌, ◌<◌};
 
 /// A doubtful block, by channel and number. It is written off or submitted again: it may not be let fall,
-/// and it is spent by either. Number 0 is the spent note; no block has it. (By the project's rules a note is two plain numbers,
-/// which its holder can write down, and its `drop` demands that it was spent: see docs/DECISIONS.md.)
+/// and it is spent by either. Number 0 is the spent note; no block has it. (Two plain numbers, which its holder can write down,
+/// and a `drop` that demands that it was spent: docs/DECISIONS.md says why.)
 pub struct DoubtNote {
     channel: u8,
     number: u32,

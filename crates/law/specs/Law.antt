@@ -86,7 +86,7 @@ Unanswered idle = ⊥
 Unanswered (on_its_way q r) = Unit {0}
 Unanswered down = ⊥
 
--- a granted timer, and the frame on its way has had all its repeats
+-- a granted timer, and the frame that is unanswered has had all its repeats
 pub record UsedUp (w : World) (c : Call) : Type 0 where
   pub size : ℕ
   pub is_timer : c ≡ host_timer size

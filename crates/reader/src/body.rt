@@ -7,7 +7,7 @@ use crate::reader::BODY;
 use std::marker::Model;
 
 /// The bytes so far, and the register over them. An array and a length, and not the kit's `ArrayVec`: the `clear` of that
-/// writes over the used part, and by the project's rules each byte of the line costs the same. Nor poll's `ShortList`: that
+/// writes over the used part, and each byte of the line is to cost the same. Nor poll's `ShortList`: that
 /// would have to be public, of any length, and would stand in this type with the register beside it, no plainer.
 #[derive(Drop)]
 pub struct Body {

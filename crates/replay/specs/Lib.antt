@@ -1,3 +1,4 @@
+-- The definitions that the contracts on a replayed script cite.
 pub mod AnyStore
 pub mod Area
 pub mod Ending

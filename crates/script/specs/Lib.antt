@@ -1,3 +1,4 @@
+-- The definitions that the contracts on a line of a script cite.
 pub mod Bytes
 pub mod Names
 pub mod Numbers
