@@ -35,7 +35,7 @@ Keeps None old new = new ≡ old
 Keeps (Some d) old new =
     (new.handed ≡ next_number old) × (new.kept.items ≡ old.kept.items ++ record { number = next_number old; note = d } ∷ [])
 
--- the note that a fall, a timer and a byte hand out
+-- the note that a timer, a rule that was met, and a byte hand out
 abbrev pub timed_doubt : Result Timed Refusal → Option DoubtNote
 timed_doubt (Ok (timed.Repeated n)) = None
 timed_doubt (Ok (timed.Down f)) = f.doubt

@@ -1,11 +1,14 @@
 -- What a script sets up.
 use Rattle.std.specs.Prelude.{◌≡◌, ℕ, ◌<◌, ◌⊎◌, List, ◌++◌, codes, decimal, vec_len, Err}
+use Rattle.frame.specs.declared.form.Direction.TheVariants.{FromTnc}
+use Rattle.reader.specs.Read.{fresh}
 use Rattle.shelf.specs.Size.{place_count}
 use Rattle.strip.specs.declared.refusal.AreaRefusal.TheVariants.{BadSize}
 use Rattle.strip.specs.Records.{limit_of}
 use Rattle.strip.specs.Refusal as area
 use Rattle.ends.specs.declared.refusal.Refusal.TheVariants.{ManyRepeats}
 use Rattle.ends.specs.Refusal.{refusal_number}
+use Rattle.ends.specs.Ear.{heard_by}
 use Rattle.ends.specs.Limits.{most_repeats}
 use Rattle.ends.specs.Host.{new_host}
 use Rattle.host.specs.Model.{host_of}
@@ -46,7 +49,8 @@ HasArea (choice.Strip a) n = vec_len a.bytes ≡ n
 
 -- what a granted set-up leaves
 abbrev pub SetUp : Setup → Settings → Settings → Type 0
-SetUp (setup.Repeats n) old new = (host_of new.host.link ≡ new_host n) × (new.choices ≡ old.choices)
+SetUp (setup.Repeats n) old new =
+    (host_of new.host.link ≡ new_host n) × (heard_by new.host.ear ≡ fresh FromTnc) × (new.choices ≡ old.choices)
 SetUp (setup.Shelf p) old new = (new.host ≡ old.host) × (new.choices ≡ choose p choice.Shelf old.choices)
 SetUp (setup.Strip p n) old new =
     (new.host ≡ old.host) × (new.choices ≡ choose p (chosen_at p new.choices) old.choices) × HasArea (chosen_at p new.choices) n

@@ -3,8 +3,9 @@
 ghost use Rattle.std.specs.Prelude.{◌≡◌, cond, min, nat_lt, length, IfOk, OnOk, MatchOption};
 ghost use Rattle.std.specs.Option.{option_map};
 ghost use Rattle.store.specs.Meaning.{Meaning, plain, empty};
+ghost use Rattle.store.specs.Rules.{copy_source, written_over};
 ghost use Rattle.wire.specs.Wire.{longest_wire};
-ghost use Rattle.reader.specs.Read.{hears};
+ghost use Rattle.reader.specs.Read.{fresh, hears};
 ghost use Rattle.ends.specs.Ear.{heard_by};
 ghost use Rattle.ends.specs.Blocks.{granted, submit_answer, submit_counts, submit_store, collect_answer, collect_store};
 ghost use Rattle.ends.specs.Host.{open_call, step_call, timer_call, host_counts};
@@ -29,6 +30,7 @@ use crate::notes::{Kept, Notes};
 use crate::settings::Choices;
 use ends::name::BlockName;
 use ends::refusal::Refusal;
+use frame::form::Direction;
 use host::answer::{Fall, Heard, Returned, Stepped, Timed};
 use host::host::Host;
 use std::alloc::{AllocError, Global};
@@ -52,6 +54,7 @@ impl<'a> Session<'a> {
     pub fn new(alloc: Global, host: Host, choices: &'a mut Choices) -> Session<'a>
         ensures host { result.host ≡ host }
         ensures tnc { tnc_of result.tnc.link ≡ new_tnc }
+        ensures ear { heard_by result.tnc.ear ≡ fresh Direction.FromHost }
         ensures host_out { meaning_of result.host_out ≡ empty (limit_chosen choices.old.host_out) }
         ensures host_in { meaning_of result.host_in ≡ empty (limit_chosen choices.old.host_in) }
         ensures tnc_out { meaning_of result.tnc_out ≡ empty (limit_chosen choices.old.tnc_out) }
@@ -174,6 +177,7 @@ impl<'a> Session<'a> {
 
     pub fn host_collect(&mut self, channel: u64, buffer: &mut [u8]) -> Result<Event, AllocError>
         ensures told { IfOk result (λ e. event_words e ≡ collect_told (collect_answer (meaning_of self.old.host_in) (min channel 255) (length buffer.old)) buffer.new) }
+        ensures buffer { buffer.new ≡ written_over (copy_source (meaning_of self.old.host_in) (min channel 255) (length buffer.old)) buffer.old }
         ensures inn { meaning_of self.new.host_in ≡ collect_store (meaning_of self.old.host_in) (min channel 255) (length buffer.old) }
         ensures only { self.new ≡ record self.old { host_in = self.new.host_in } }
     {
@@ -216,6 +220,7 @@ impl<'a> Session<'a> {
 
     pub fn tnc_collect(&mut self, channel: u64, buffer: &mut [u8]) -> Result<Event, AllocError>
         ensures told { IfOk result (λ e. event_words e ≡ collect_told (collect_answer (meaning_of self.old.tnc_in) (min channel 255) (length buffer.old)) buffer.new) }
+        ensures buffer { buffer.new ≡ written_over (copy_source (meaning_of self.old.tnc_in) (min channel 255) (length buffer.old)) buffer.old }
         ensures inn { meaning_of self.new.tnc_in ≡ collect_store (meaning_of self.old.tnc_in) (min channel 255) (length buffer.old) }
         ensures only { self.new ≡ record self.old { tnc_in = self.new.tnc_in } }
     {
@@ -245,6 +250,7 @@ impl<'a> Session<'a> {
 pub fn host_write_off(notes: &mut Notes, number: u64) -> Event
     ensures told { MatchOption (note_of number notes.old.kept.items) (event_words result ≡ no_note_words number) (λ _. event_words result ≡ written_off_words) }
     ensures notes { TakesOut number notes.old.kept.items notes.new.kept.items }
+    ensures handed { notes.new.handed ≡ notes.old.handed }
 {
     match notes.take(number) {
         Some(kept) => {

@@ -1,5 +1,7 @@
 // What a script sets up before the first call.
 ghost use Rattle.std.specs.Prelude.{◌≡◌, Some, OnOk, OnErr, IfErr, MatchResult, vec_len};
+ghost use Rattle.reader.specs.Read.{fresh};
+ghost use Rattle.ends.specs.Ear.{heard_by};
 ghost use Rattle.ends.specs.Host.{new_host};
 ghost use Rattle.host.specs.Model.{host_of};
 ghost use Rattle.replay.specs.declared.area.Choice.TheVariants as choice;
@@ -8,6 +10,7 @@ ghost use Rattle.replay.specs.Settings.{choose, SetUp, NotSetUp, error_words};
 use crate::area::{Area, AreaError, Choice};
 use crate::buffers::byte;
 use ends::refusal::Refusal;
+use frame::form::Direction;
 use host::host::Host;
 use script::command::Setup;
 use script::name::{Named, Place};
@@ -46,6 +49,7 @@ impl Settings {
     /// As it is where the script sets up nothing: 3 repeats, four shelves.
     pub fn new() -> Settings
         ensures host { host_of result.host.link ≡ new_host 3 }
+        ensures ear { heard_by result.host.ear ≡ fresh Direction.FromTnc }
         ensures choices { result.choices ≡ record { host_out = choice.Shelf; host_in = choice.Shelf; tnc_out = choice.Shelf; tnc_in = choice.Shelf } }
     {
         Settings {
@@ -95,7 +99,7 @@ impl Choices {
 
 // A host that repeats a frame so often. A number above 255 is no byte; it is refused as 255 is.
 fn host_with(repeats: u64) -> Result<Host, SetupError>
-    ensures { MatchResult result (λ h. host_of h.link ≡ new_host repeats) (NotSetUp (Setup.Repeats repeats)) }
+    ensures { MatchResult result (λ h. (host_of h.link ≡ new_host repeats) × (heard_by h.ear ≡ fresh Direction.FromTnc)) (NotSetUp (Setup.Repeats repeats)) }
 {
     match Host::new(byte(repeats)) {
         Ok(host) => Ok(host),
