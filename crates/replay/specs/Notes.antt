@@ -35,6 +35,17 @@ Keeps None old new = new ≡ old
 Keeps (Some d) old new =
     (new.handed ≡ next_number old) × (new.kept.items ≡ old.kept.items ++ record { number = next_number old; note = d } ∷ [])
 
+-- memory is wanting for a note that is handed out now: it is written off, and its number is spent
+abbrev pub Loses : Option DoubtNote → Notes → Notes → Type 0
+Loses None old new = ⊥
+Loses (Some d) old new = (new.handed ≡ next_number old) × (new.kept.items ≡ old.kept.items)
+
+-- memory is wanting at a timer: for the bytes of the frame that it repeats, or for a note
+abbrev pub TimerFails : Result Timed Refusal → Notes → Notes → Type 0
+TimerFails (Ok (timed.Repeated n)) old new = new ≡ old
+TimerFails (Ok (timed.Down f)) old new = Loses f.doubt old new
+TimerFails (Err e) old new = ⊥
+
 -- the note that a timer, a rule that was met, and a byte hand out
 abbrev pub timed_doubt : Result Timed Refusal → Option DoubtNote
 timed_doubt (Ok (timed.Repeated n)) = None

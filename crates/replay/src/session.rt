@@ -1,6 +1,6 @@
 // Both ends with their stores, and the calls of a script made on them. What a call tells is what the end answers, by the
 // definitions in specs/Told.antt, and it changes what the end's own call changes.
-ghost use Rattle.std.specs.Prelude.{◌≡◌, cond, min, nat_lt, length, IfOk, OnOk, MatchOption};
+ghost use Rattle.std.specs.Prelude.{◌≡◌, cond, min, nat_lt, length, IfOk, OnOk, OnErr, IsOk, IsErr, IsOkAnd, IsSome, MatchOption};
 ghost use Rattle.std.specs.Option.{option_map};
 ghost use Rattle.store.specs.Meaning.{Meaning, plain, empty};
 ghost use Rattle.store.specs.Rules.{copy_source, written_over};
@@ -19,7 +19,7 @@ ghost use Rattle.tnc.specs.Hear as tnc_rules;
 ghost use Rattle.tnc.specs.Left as tnc_left;
 ghost use Rattle.replay.specs.AnyStore.{meaning_of};
 ghost use Rattle.replay.specs.Event.{event_words};
-ghost use Rattle.replay.specs.Notes.{next_number, note_of, TakesOut, SpentOrBack, Keeps, timed_doubt, rule_doubt, heard_doubt};
+ghost use Rattle.replay.specs.Notes.{next_number, note_of, TakesOut, SpentOrBack, Keeps, Loses, TimerFails, timed_doubt, rule_doubt, heard_doubt};
 ghost use Rattle.replay.specs.Settings.{limit_chosen};
 ghost use Rattle.replay.specs.Told.{sent_words, collected_words, fall_words, heard_words, open_told, step_told, timer_told, hear_told, tnc_told, submit_told, collect_told, no_note_words, written_off_words};
 
@@ -91,6 +91,7 @@ impl<'a> Session<'a> {
 
     pub fn host_open(&mut self, wire: &mut [u8]) -> Result<Event, AllocError>
         ensures told { IfOk result (λ e. event_words e ≡ open_told (open_answer (host_of self.old.host.link) (length wire.old)) wire.new) }
+        ensures err { OnErr result (IsOk (open_answer (host_of self.old.host.link) (length wire.old))) }
         ensures after { (out inn : Meaning) → Left (open_call (length wire.old) (host_of self.old.host.link) out inn) self.old.host self.new.host out inn wire.old wire.new }
         ensures only { self.new ≡ record self.old { host = self.new.host } }
     {
@@ -102,6 +103,7 @@ impl<'a> Session<'a> {
 
     pub fn host_step(&mut self, wire: &mut [u8]) -> Result<Event, AllocError>
         ensures told { IfOk result (λ e. event_words e ≡ step_told (step_answer (host_of self.old.host.link) (meaning_of self.old.host_out) (length wire.old)) wire.new) }
+        ensures err { OnErr result (IsOk (step_answer (host_of self.old.host.link) (meaning_of self.old.host_out) (length wire.old))) }
         ensures after { (inn : Meaning) → Left (step_call (length wire.old) (host_of self.old.host.link) (meaning_of self.old.host_out) inn) self.old.host self.new.host (meaning_of self.old.host_out) inn wire.old wire.new }
         ensures only { self.new ≡ record self.old { host = self.new.host } }
     {
@@ -115,6 +117,7 @@ impl<'a> Session<'a> {
         ensures told { IfOk result (λ e. event_words e ≡ timer_told (timer_answer (host_of self.old.host.link) (length wire.old)) (next_number notes.old) wire.new) }
         ensures after { (inn : Meaning) → Left (timer_call (length wire.old) (host_of self.old.host.link) (meaning_of self.old.host_out) inn) self.old.host self.new.host (meaning_of self.new.host_out) inn wire.old wire.new }
         ensures kept { OnOk result (Keeps (timed_doubt (timer_answer (host_of self.old.host.link) (length wire.old))) notes.old notes.new) }
+        ensures err { OnErr result (TimerFails (timer_answer (host_of self.old.host.link) (length wire.old)) notes.old notes.new) }
         ensures only { self.new ≡ record self.old { host = self.new.host; host_out = self.new.host_out } }
     {
         match self.host.timer(&mut self.host_out, wire) {
@@ -129,6 +132,7 @@ impl<'a> Session<'a> {
         ensures after { Stands (hear_call (hears (heard_by self.old.host.ear) byte) (host_of self.old.host.link) (meaning_of self.old.host_out) (meaning_of self.old.host_in)) (host_of self.new.host.link) (meaning_of self.new.host_out) (meaning_of self.new.host_in) }
         ensures ear { heard_by self.new.host.ear ≡ (hears (heard_by self.old.host.ear) byte).then }
         ensures kept { OnOk result (Keeps (heard_doubt (hear_answer (hears (heard_by self.old.host.ear) byte) (host_of self.old.host.link) (meaning_of self.old.host_out) (meaning_of self.old.host_in))) notes.old notes.new) }
+        ensures err { OnErr result (Loses (heard_doubt (hear_answer (hears (heard_by self.old.host.ear) byte) (host_of self.old.host.link) (meaning_of self.old.host_out) (meaning_of self.old.host_in))) notes.old notes.new) }
         ensures only { self.new ≡ record self.old { host = self.new.host; host_out = self.new.host_out; host_in = self.new.host_in } }
     {
         match self.host.hear(&mut self.host_out, &mut self.host_in, byte) {
@@ -158,6 +162,7 @@ impl<'a> Session<'a> {
         ensures told { IfOk result (λ e. MatchOption (note_of number notes.old.kept.items) (event_words e ≡ no_note_words number) (λ k. event_words e ≡ submit_told (submit_answer (host_of self.old.host.link).submitted (meaning_of self.old.host_out) k.note.channel (plain block.now)))) }
         ensures after { MatchOption (note_of number notes.old.kept.items) (self.new ≡ self.old) (λ k. host_of self.new.host.link ≡ host_counts (host_of self.old.host.link) (submit_counts (host_of self.old.host.link).submitted (meaning_of self.old.host_out) k.note.channel (plain block.now))) }
         ensures kept { OnOk result (MatchOption (note_of number notes.old.kept.items) (notes.new.kept.items ≡ notes.old.kept.items) (λ k. SpentOrBack (granted (submit_answer (host_of self.old.host.link).submitted (meaning_of self.old.host_out) k.note.channel (plain block.now))) number k notes.old.kept.items notes.new.kept.items)) }
+        ensures err { OnErr result (MatchOption (note_of number notes.old.kept.items) ⊥ (λ k. IsErr (submit_answer (host_of self.old.host.link).submitted (meaning_of self.old.host_out) k.note.channel (plain block.now)) × TakesOut number notes.old.kept.items notes.new.kept.items)) }
         ensures handed { notes.new.handed ≡ notes.old.handed }
         ensures ear { self.new.host.ear ≡ self.old.host.ear }
         ensures out { MatchOption (note_of number notes.old.kept.items) (self.new ≡ self.old) (λ k. meaning_of self.new.host_out ≡ submit_store (host_of self.old.host.link).submitted (meaning_of self.old.host_out) k.note.channel (plain block.now)) }
@@ -177,6 +182,7 @@ impl<'a> Session<'a> {
 
     pub fn host_collect(&mut self, channel: u64, buffer: &mut [u8]) -> Result<Event, AllocError>
         ensures told { IfOk result (λ e. event_words e ≡ collect_told (collect_answer (meaning_of self.old.host_in) (min channel 255) (length buffer.old)) buffer.new) }
+        ensures err { OnErr result (IsOk (collect_answer (meaning_of self.old.host_in) (min channel 255) (length buffer.old))) }
         ensures buffer { buffer.new ≡ written_over (copy_source (meaning_of self.old.host_in) (min channel 255) (length buffer.old)) buffer.old }
         ensures inn { meaning_of self.new.host_in ≡ collect_store (meaning_of self.old.host_in) (min channel 255) (length buffer.old) }
         ensures only { self.new ≡ record self.old { host_in = self.new.host_in } }
@@ -190,6 +196,7 @@ impl<'a> Session<'a> {
 
     pub fn tnc_hear(&mut self, byte: u8, wire: &mut [u8]) -> Result<Option<Event>, AllocError>
         ensures told { IfOk result (λ o. option_map event_words o ≡ tnc_told (tnc_rules.hear_answer (length wire.old) (hears (heard_by self.old.tnc.ear) byte) (tnc_of self.old.tnc.link) (meaning_of self.old.tnc_out) (meaning_of self.old.tnc_in)) wire.new) }
+        ensures err { OnErr result (IsOkAnd (tnc_rules.hear_answer (length wire.old) (hears (heard_by self.old.tnc.ear) byte) (tnc_of self.old.tnc.link) (meaning_of self.old.tnc_out) (meaning_of self.old.tnc_in)) IsSome) }
         ensures after { tnc_left.Left (tnc_rules.hear_call (length wire.old) (hears (heard_by self.old.tnc.ear) byte) (tnc_of self.old.tnc.link) (meaning_of self.old.tnc_out) (meaning_of self.old.tnc_in)) (tnc_of self.new.tnc.link) (meaning_of self.new.tnc_out) (meaning_of self.new.tnc_in) wire.old wire.new }
         ensures ear { heard_by self.new.tnc.ear ≡ cond (nat_lt (length wire.old) longest_wire) (heard_by self.old.tnc.ear) (hears (heard_by self.old.tnc.ear) byte).then }
         ensures only { self.new ≡ record self.old { tnc = self.new.tnc; tnc_out = self.new.tnc_out; tnc_in = self.new.tnc_in } }
@@ -220,6 +227,7 @@ impl<'a> Session<'a> {
 
     pub fn tnc_collect(&mut self, channel: u64, buffer: &mut [u8]) -> Result<Event, AllocError>
         ensures told { IfOk result (λ e. event_words e ≡ collect_told (collect_answer (meaning_of self.old.tnc_in) (min channel 255) (length buffer.old)) buffer.new) }
+        ensures err { OnErr result (IsOk (collect_answer (meaning_of self.old.tnc_in) (min channel 255) (length buffer.old))) }
         ensures buffer { buffer.new ≡ written_over (copy_source (meaning_of self.old.tnc_in) (min channel 255) (length buffer.old)) buffer.old }
         ensures inn { meaning_of self.new.tnc_in ≡ collect_store (meaning_of self.old.tnc_in) (min channel 255) (length buffer.old) }
         ensures only { self.new ≡ record self.old { tnc_in = self.new.tnc_in } }
@@ -275,6 +283,7 @@ fn numbered(submitted: Result<u32, Refusal>) -> Event
 fn host_event(notes: &mut Notes, heard: Heard) -> Result<Event, AllocError>
     ensures told { IfOk result (λ e. event_words e ≡ heard_words heard (next_number notes.old)) }
     ensures kept { OnOk result (Keeps (rule_doubt heard) notes.old notes.new) }
+    ensures err { OnErr result (Loses (rule_doubt heard) notes.old notes.new) }
 {
     match heard {
         Heard::Stale => Ok(Event::Met(Met::Stale)),
@@ -292,6 +301,7 @@ fn host_event(notes: &mut Notes, heard: Heard) -> Result<Event, AllocError>
 fn down(notes: &mut Notes, fall: Fall) -> Result<Event, AllocError>
     ensures told { IfOk result (λ e. event_words e ≡ fall_words fall (next_number notes.old)) }
     ensures kept { OnOk result (Keeps fall.doubt notes.old notes.new) }
+    ensures err { OnErr result (Loses fall.doubt notes.old notes.new) }
 {
     let Fall { cause, doubt } = fall;
     let Some(note) = doubt else {
