@@ -1,7 +1,8 @@
 // The buffers that calls are given.
-ghost use Rattle.std.specs.Prelude.{◌≡◌, IfOk, OnOk, min, vec_len};
+ghost use Rattle.std.specs.Prelude.{◌≡◌, is_ok, if◌then◌else◌, IfOk, min};
 ghost use Rattle.wire.specs.Wire.{longest_wire};
 ghost use Rattle.frame.specs.Frame.{longest_block};
+ghost use Rattle.replay.specs.Buffers.{zeros, resized};
 
 use frame::form::BLOCK;
 use std::alloc::{AllocError, Global};
@@ -18,8 +19,8 @@ pub struct Buffers {
 impl Buffers {
     /// As long as calls need them.
     pub fn new(alloc: Global) -> Result<Buffers, AllocError>
-        ensures wire { IfOk result (λ b. vec_len b.wire ≡ longest_wire) }
-        ensures block { IfOk result (λ b. vec_len b.block ≡ longest_block) }
+        ensures wire { IfOk result (λ b. b.wire.items ≡ zeros longest_wire) }
+        ensures block { IfOk result (λ b. b.block.items ≡ zeros longest_block) }
     {
         Ok(Buffers {
             wire: vec![in alloc; 0; WIRE]?,
@@ -29,7 +30,7 @@ impl Buffers {
 
     /// Later calls are given a wire buffer of so many bytes.
     pub fn set_wire(&mut self, length: u64) -> Result<(), AllocError>
-        ensures wire { OnOk result (vec_len self.new.wire ≡ min length longest_wire) }
+        ensures wire { self.new.wire.items ≡ (if is_ok result then resized (min length longest_wire) self.old.wire.items else self.old.wire.items) }
         ensures block { self.new.block ≡ self.old.block }
     {
         self.wire.resize(at_most(length, WIRE), 0)
@@ -37,7 +38,7 @@ impl Buffers {
 
     /// Later calls are given a block buffer of so many bytes.
     pub fn set_block(&mut self, length: u64) -> Result<(), AllocError>
-        ensures block { OnOk result (vec_len self.new.block ≡ min length longest_block) }
+        ensures block { self.new.block.items ≡ (if is_ok result then resized (min length longest_block) self.old.block.items else self.old.block.items) }
         ensures wire { self.new.wire ≡ self.old.wire }
     {
         self.block.resize(at_most(length, BLOCK), 0)
