@@ -71,14 +71,7 @@ refused_words n = codes "refused " ++ decimal n
 
 abbrev pub refusal_words : Refusal → List ℕ
 refusal_words (refusal.Reader f) = codes "fault " ++ (decimal (fault_number f.reason) ++ (codes " count " ++ decimal f.count))
-refusal_words (refusal.Store r) = refused_words (refusal_number (refusal.Store r))
-refusal_words refusal.FlaggedFrame = refused_words 7
-refusal_words refusal.BeforeReset = refused_words 8
-refusal_words refusal.NoRoom = refused_words 9
-refusal_words refusal.ShortWire = refused_words 14
-refusal_words refusal.NumbersUsed = refused_words 15
-refusal_words refusal.WrongState = refused_words 16
-refusal_words refusal.ManyRepeats = refused_words 18
+refusal_words r = refused_words (refusal_number r)
 
 abbrev pub event_words : Event → List ℕ
 event_words (event.Sent s bytes) = sending_word s ++ (codes " sent " ++ string_bytes bytes)
