@@ -7,8 +7,14 @@ use replay::session::Session;
 use std::io;
 use std::io::Write;
 
-/// How the ends stand: the host's state, and the counts of each channel that has any, first the host's.
+/// How the ends stand, first the host.
 pub fn close<W: Write + Drop>(session: &Session, teller: &mut Teller<W>) -> io::Result<()> {
+    close_host(session, teller)?;
+    close_tnc(session, teller)
+}
+
+// The host's state, and the counts of each of its channels that has any.
+fn close_host<W: Write + Drop>(session: &Session, teller: &mut Teller<W>) -> io::Result<()> {
     let state = StateWord(session.host().state());
     teller.tell(format_args!("end host {state}"))?;
     for channel in 0..LAST_CHANNEL + 1 {
@@ -16,6 +22,11 @@ pub fn close<W: Write + Drop>(session: &Session, teller: &mut Teller<W>) -> io::
             teller.tell(format_args!("end host {tally}"))?;
         }
     }
+    Ok(())
+}
+
+// The counts of each channel of the TNC that has any.
+fn close_tnc<W: Write + Drop>(session: &Session, teller: &mut Teller<W>) -> io::Result<()> {
     for channel in 0..LAST_CHANNEL + 1 {
         if let Some(tally) = session.tnc_tally(channel) {
             teller.tell(format_args!("end tnc {tally}"))?;
