@@ -1,5 +1,6 @@
 // Both ends with their stores, and the calls of a script made on them. What a call tells is what the end answers, by the
-// definitions in specs/Told.antt, and it changes what the end's own call changes.
+// definitions in specs/Told.antt, and it changes what the end's own call changes. It fails only where a frame or a block that it
+// would tell, or a note that it would keep, finds no memory.
 ghost use Rattle.std.specs.Prelude.{◌≡◌, cond, min, nat_lt, length, IfOk, OnOk, OnErr, IsOk, IsErr, IsOkAnd, IsSome, MatchOption};
 ghost use Rattle.std.specs.Option.{option_map};
 ghost use Rattle.store.specs.Meaning.{Meaning, plain, empty};
