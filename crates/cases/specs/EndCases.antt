@@ -24,7 +24,7 @@ pub record TimedDown (size : ℕ) (h : Host) (out inn : Meaning) (handed : Optio
   pub wrote : (timer_call size h out inn).wrote ≡ nothing
 
 pub record EndCases : Type 0 where
-  -- with 0 repeats the first timer takes the link down: in opening and after a poll without a note,
+  -- where no frame is to be repeated, the link falls at the first timer: in opening and after a poll without a note,
   pub first_timer_opening : (size : ℕ) (h : Host) (out inn : Meaning) → h.setting ≡ 0 → h.state ≡ opening 0 → longest_wire ≤ size
       → TimedDown size h out inn None silent
   pub first_timer_poll : (size : ℕ) (h : Host) (out inn : Meaning) (q : Request) → h.setting ≡ 0 → h.state ≡ on_its_way q 0 → q.load ≡ poll → longest_wire ≤ size

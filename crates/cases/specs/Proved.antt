@@ -24,6 +24,7 @@ information block = record { channel = 33; code = 0; reset = false; toggle = fal
 abbrev pub empty_list : Frame
 empty_list = record { channel = 255; code = 1; reset = true; toggle = false; payload = list_of (replicate 64 false) }
 
+-- Ten cases: six here, three of the stores, and the first timer; `empty_list_answer` of the ends belongs to the sixth.
 pub record ProvedCases : Type 0 where
   -- a frame that may be sent goes into 521 bytes, and 520 give refusal 14
   pub wire_521 : (d : Direction) (f : Frame) (body before buffer : List ℕ) (r : Result ℕ Refusal) → Body d body f → Writes d f before buffer r
@@ -31,7 +32,7 @@ pub record ProvedCases : Type 0 where
   pub wire_520 : (d : Direction) (f : Frame) (before buffer : List ℕ) (r : Result ℕ Refusal) → Writes d f before buffer r
       → length before ≡ 520 → (r ≡ Err ShortWire) × (buffer ≡ before)
   pub number_14 : refusal_number ShortWire ≡ 14
-  -- AA AA AA 21 begins a frame on channel 33
+  -- with AA AA AA 21 a frame has begun, on channel 33
   pub third_mark : (d : Direction) → after (fresh d) (170 ∷ 170 ∷ 170 ∷ 33 ∷ []) ≡ at d (Inside Code) (33 ∷ []) 1
   -- a count of AA, that of 171 bytes, is sent AA 00
   pub stuffed_count : (block : List ℕ) → length block ≡ 171 → (rest : List ℕ) × (wire_of (body_of form.Counted (information block)) ≡ 170 ∷ 170 ∷ 33 ∷ 0 ∷ 170 ∷ 0 ∷ rest)
@@ -40,7 +41,7 @@ pub record ProvedCases : Type 0 where
   pub number_1 : fault_number StrayMark ≡ 1
   -- code byte 87 is code 7 with toggle 1
   pub code_87 : (code_in 135 ≡ 7) × (reset_in 135 ≡ false) × (toggle_in 135 ≡ true)
-  -- an empty list after a reset of toggle 0 is FF 41 00
+  -- FF 41 00 is the body that answers a reset of toggle 0 where nothing waits
   pub empty_list_body : body_of form.Text empty_list ≡ 255 ∷ 65 ∷ 0 ∷ []
   -- those of the stores
   pub stores : StoreCases

@@ -1,4 +1,4 @@
-// One text of tests that runs on a store of each kind: refusals and their order, limits, contents, channels, and use
+// The same tests run on a store of each kind: refusals and their order, limits, contents, channels, and use
 // many times over. The expected values are worked by hand from the rules. (The runtime and the store go through all of them
 // side by side: each assertion names the runtime, and in a struct of both it would be one name more.)
 use frame::form::BLOCK;

@@ -65,11 +65,12 @@ submit_counts submitted m c b = changed (granted (submit_answer submitted m c b)
 abbrev pub submit_store : (ℕ → ℕ) → Meaning → ℕ → Block → Meaning
 submit_store submitted m c b = if_granted (submit_answer submitted m c b) (joined m c b) m
 
--- collect: copy-first and drop-first, into a buffer of n bytes
+-- a store's answer as the end's: its refusal comes up whole
 abbrev pub whole : {X : Type 0} → Result X stores.Refusal → Result X Refusal
 whole (Ok x) = Ok x
 whole (Err e) = Err (Store e)
 
+-- collect: copy-first and drop-first, into a buffer of n bytes
 abbrev pub collect_answer : Meaning → ℕ → ℕ → Result ℕ Refusal
 collect_answer m c n = whole (length_of (copy_source m c n))
 

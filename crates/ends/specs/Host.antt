@@ -20,9 +20,10 @@ pub data State : Type 0 where
   on_its_way : Request → ℕ → State
   down : State
 
--- setting: how often a frame is repeated; generation: the toggle of the next opening's resets; last: the toggle of the last answer taken;
--- spare: how many stale frames may still come; resets: how often this generation's reset was sent; poll_list: the channels left to poll;
--- block_refused: the last answer taken refused a block; submitted and gone: counts by channel
+-- setting: how often a frame is repeated; generation: the toggle of every reset until the link opens next; last: the toggle
+-- of the last answer taken; spare: how many frames out of sequence may still come; resets: how often this generation's reset
+-- was sent; poll_list: the channels left to poll; block_refused: the last answer taken refused a block; submitted and gone:
+-- counts by channel
 pub record Host : Type 0 where
   pub setting : ℕ
   pub state : State
@@ -62,7 +63,7 @@ in_wire size h out inn s = cond (nat_lt size longest_wire) (stays h out inn) s
 
 -- GOING DOWN
 
--- the block on its way, and its channel
+-- the block on its way, if one is; and the channel byte of the frame on its way, the general poll's where none is
 abbrev pub aboard : State → Cargo
 aboard fresh = empty
 aboard (opening r) = empty
@@ -220,6 +221,7 @@ sent_again idle generation = nothing
 sent_again (on_its_way q r) generation = one q
 sent_again down generation = nothing
 
+-- the count of resets after a repeat: one more in opening
 abbrev pub reset_again_rule : State → ℕ → ℕ
 reset_again_rule fresh n = n
 reset_again_rule (opening r) n = one_reset_more n

@@ -2,8 +2,8 @@
 // stuffing, and a model of both ends in another language, written from the rules, gives the same rows.
 use crate::calls::{Call, Row};
 
-/// With 0 repeats the first timer takes the link down. The host opens again, so there are two resets of one generation, and the
-/// answer to the second is stale while a block is on its way.
+/// A setting of 0, so the link falls at the first timer. The host opens again, so there are two resets of one generation,
+/// and the answer to the second is stale while a block is on its way.
 pub static NO_REPEATS: [Row; 18] = [
     Row(Call::Open, "opens; opening 0, spare 0: AAAAFF4100471D53"),
     Row(Call::Timer, "down 1; down, spare 0"),

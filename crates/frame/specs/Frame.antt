@@ -11,7 +11,7 @@ abbrev pub form_of : Direction → ℕ → Option Form
 form_of FromHost code = cond (nat_lt code 2) (Some Counted) None
 form_of FromTnc code = cond (code == 0) (Some Bare) (cond (nat_lt code 6) (Some Text) (cond (nat_lt code 8) (Some Counted) None))
 
--- a code byte: bits 0 to 5 are the code, bit 6 the reset flag, bit 7 the toggle
+-- a code byte: the code in the six low bits, then the reset flag (64), then the toggle (128)
 abbrev pub code_byte_of : ℕ → Bool → Bool → ℕ
 code_byte_of code reset toggle = code + cond reset 64 0 + cond toggle 128 0
 

@@ -33,7 +33,7 @@ tnc_shows (tnc.HeaderFirst p) = shows 5 p.now
 tnc_shows (tnc.Monitored p) = shows 6 p.now
 tnc_shows (tnc.Information p) = shows 7 p.now
 
--- what the frame of a code shows that is made with this payload; none of an unknown code
+-- what a frame with this code and payload shows; none where the direction does not know the code
 abbrev pub shown_in : Option Form → ℕ → List ℕ → Option Shown
 shown_in None code payload = None
 shown_in (Some Bare) code payload = Some (shows code [])

@@ -75,6 +75,7 @@ timed_length (timed.Down f) = 0
 abbrev pub cause_of : ℕ → Cause
 cause_of n = cond (n == 1) cause.RepeatsUsed (cond (n == 2) cause.SpareUsed cause.WrongAnswer)
 
+-- a confirmation names its block; the other two cases do not occur
 abbrev pub confirmed_by : Word → Heard
 confirmed_by silent = heard.Stale
 confirmed_by (confirms c n) = heard.Confirmed (name_of c n)

@@ -17,10 +17,11 @@ step_on (Some body) h out inn = hear_step h out inn (answer_read body)
 abbrev pub hear_call : Next → Host → Meaning → Meaning → HostStep
 hear_call n h out inn = step_on (body_heard n) h out inn
 
--- what a frame answers, the body that passed, if one did, and the byte
+-- what is answered to a frame; to the body that passed, if one did; and to the byte
 abbrev pub answer_heard : Host → Meaning → Meaning → Answer → Result Heard Refusal
 answer_heard h out inn a = heard_by (host_rule h inn a) (hear_step h out inn a).word
 
+-- the answer to a frame, as the answer to the byte that ended it
 abbrev pub a_frame : Result Heard Refusal → Result (Option Heard) Refusal
 a_frame (Ok h) = Ok (Some h)
 a_frame (Err e) = Err e

@@ -42,7 +42,7 @@ pub enum StepRule {
     PollAfterRefusal,
     /// A poll of the first channel left on the list.
     ChannelPoll,
-    /// The first block of the lowest channel that has one.
+    /// A block, the first that waits on the lowest channel where any does.
     Block,
     GeneralPoll,
 }

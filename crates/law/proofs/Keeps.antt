@@ -24,8 +24,8 @@ use Rattle.law.proofs.Books.{block_in, carried, carried_empty, drop_c, doubt_at,
 use Rattle.law.proofs.ToTnc.{carries, good_reply, if_good, ToTnc, up_begin, up_submit, up_open_new, up_step, up_confirmed, up_stays, up_fall, up_resets, up_accepts, step_waits, step_flag, step_toggle}
 use Rattle.law.proofs.ToHost.{offers, ToHost, dn_begin, dn_submit, dn_fall, dn_open_old, dn_again, dn_open_new, dn_step, dn_opened, dn_taken, dn_resets, dn_accepts, reply_first}
 
--- n: the number of the host's current transmission; m: the last that the TNC heard; j: the lowest that an answer may still answer;
--- book: the frame of each; pend: this generation's reset has been sent
+-- transmissions by number: n, the one that the host is at; m, the last that the TNC heard; j, the lowest whose answer may
+-- still pass; book: the frame of each; pend: this generation's reset has been sent
 pub record Inv (w : World) : Type 0 where
   pub n : ℕ
   pub m : ℕ

@@ -41,15 +41,16 @@ abbrev pub count_from : ℕ → ℕ → List ℕ
 count_from k zero = []
 count_from k (suc n) = k ∷ count_from (suc k) n
 
--- delivered on a channel: what granted collects handed out, then what lies in the receiving store
+-- delivered on a channel: the blocks that its collects gave, followed by those that still wait in the receiving store
 abbrev pub delivered : Way → Meaning → ℕ → List Block
 delivered y inn c = y.collected c ++ inn.waiting c
 
 -- One way and one channel; out is the sending store, inn the receiving one.
--- settled, first, exact: delivered is every confirmed submission, some of the doubtful ones and at most the first waiting one,
--- in order of submission, each once, byte for byte.
--- named_in_order, within: the numbers named are 1 to some n, each once, and n submissions there are; so each submission is
--- confirmed, doubtful or, above n, waiting, and just one of these. waiting: the sending store holds just the waiting ones, in order.
+-- settled, first, exact: delivered are all submissions that are confirmed, any number of those that are doubtful, and of
+-- those that wait the first or none; they stand in the order in which they were submitted, none twice and none changed.
+-- named_in_order, within: the numbers named are 1 to some n, each once, and there are at least n submissions; so each
+-- submission is confirmed, doubtful or, above n, waiting, and just one of these. waiting: these last are what lies in the
+-- sending store, in order.
 -- whole: until a doubt is reported, delivered is a beginning of the submissions.
 pub record Delivers (y : Way) (out inn : Meaning) (c : ℕ) : Type 0 where
   pub sure : List Block
@@ -94,8 +95,8 @@ pub record UsedUp (w : World) (c : Call) : Type 0 where
   pub unanswered : Unanswered w.host.state
   pub had : w.tries ≡ w.host.setting
 
--- THE LAW, of every run from ends as they are made and empty stores, with any setting and limits: the worlds that a run
--- passes through are reached by runs too, so it holds after each call
+-- THE LAW, of every run that begins with new ends and with nothing in the stores, with any setting and limits: the worlds
+-- that a run passes through are reached by runs too, so it holds after each call
 
 pub record DeliveryLaw : Type 0 where
   pub delivers : (setting : ℕ) (l : Limits) (w : World) → Run setting l w → (c : ℕ) → c ≤ last_channel → Delivery w c

@@ -54,6 +54,7 @@ WrittenPasses = (m : Meaning) (earlier : List ℕ) (f : Frame) (before buffer : 
     × (events m (earlier ++ take n buffer) ≡ events m earlier ++ cut (after m earlier) ++ Ok body ∷ [])
     × (after m (earlier ++ take n buffer) ≡ at m.direction Passed body 0)
 
+-- each value is a byte, below 256
 abbrev pub Bytes : List ℕ → Type 0
 Bytes xs = (k : ℕ) → k < length xs → slice_index xs k < 256
 

@@ -14,7 +14,8 @@ part_of form.Bare = Low
 part_of form.Text = Text
 part_of form.Counted = Count
 
--- how many bytes of a body may come from this part on; a block that is read has at least one to come
+-- how many bytes of the buffer are kept free at this part: the most that may still come of the body, but 2 of a text, whose
+-- length is tested byte by byte; a block that is read has at least one to come
 abbrev pub room_of : Part → ℕ
 room_of Code = longest_body - 1
 room_of Count = longest_body - 2

@@ -4,7 +4,7 @@ ghost use Rattle.reader.specs.Fault.{fault_number, words_of};
 
 use std::fmt;
 
-/// The place of a check. Those above the reader add their own.
+/// The layer that found the fault. That is always the reader: what is above it hands its faults on as they are.
 #[derive(Clone, Copy, PartialEq, Eq, Debug)]
 pub enum Layer {
     Reader,
@@ -13,7 +13,7 @@ pub enum Layer {
 /// Why a frame is dropped.
 #[derive(Clone, Copy, PartialEq, Eq, Debug)]
 pub enum Reason {
-    /// In a frame, AA before neither 00 nor AA.
+    /// An AA inside a frame that neither 00 nor AA follows.
     StrayMark = 1,
     /// The channel byte is neither 0 to 63 nor FF.
     BadChannel = 2,

@@ -1,4 +1,4 @@
-// The byte reader, one text for both directions: it hears one byte a call, and passes whole frames and faults.
+// The byte reader, one code for both directions: it hears one byte a call, and passes whole frames and faults.
 #![tactic(auto)]
 
 mod body;

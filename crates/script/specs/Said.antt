@@ -159,6 +159,6 @@ text_says text =
     if has_no_word text then Ok nothing
     else named_in first_name firsts (first_word text) >>= λ f. line_form f (after_word text)
 
--- what a line says, or the first thing in it, from the left, that can't be read
+-- what a line says, or what is wrong with the first word, from the left, that is missing or that no line may have there
 abbrev pub line_says : List ℕ → Result Said Unreadable
 line_says line = text_says (without_comment line)

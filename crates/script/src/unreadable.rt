@@ -4,7 +4,8 @@ ghost use Rattle.script.specs.Unreadable.{why};
 
 use std::fmt;
 
-/// Why a line can't be read: the first thing in it, from the left, that no line may have.
+/// Why a line can't be read: what is wrong with the first word, from the left, that is missing or that no line may have
+/// there. Of a word of bytes the length is looked at before the digits.
 #[derive(Clone, Copy, PartialEq, Eq, Debug)]
 pub enum Unreadable {
     /// A word that no line has in this place.

@@ -72,7 +72,7 @@ pub record Kept (limit : ℕ) (h : History) : Type 0 where
   pub room : total h.store ≤ limit
   pub same_limit : h.store.limit ≡ limit
 
--- a call that is not on channel c
+-- a call that can't change channel c: no put and no drop-first on it
 abbrev pub Elsewhere : ℕ → Call → Type 0
 Elsewhere c (put k b) = c ≡ k → ⊥
 Elsewhere c (copy_first k n) = Unit {0}

@@ -1,4 +1,4 @@
--- What a store means: for each channel its waiting blocks, oldest first, and a limit.
+-- The meaning of a store: what waits on every channel, in a list that begins with the oldest block, and a limit.
 use Rattle.std.specs.Prelude.{ℕ, zero, suc, ◌+◌, cond, List, [], length, ◌==◌}
 use Rattle.poll.specs.Channel.{channels}
 

@@ -23,7 +23,7 @@ pub trait Store {
         ensures answer { result ≡ put_answer (meaning self.old) channel (plain block.now) }
         ensures after { meaning self.new ≡ put_after (meaning self.old) channel (plain block.now) };
 
-    /// Copies a channel's first block to the start of the buffer, and answers its length. Refuses 14, 10, 13.
+    /// Shows a channel's first block: writes it over the beginning of the buffer, and answers its length. Refuses 14, 10, 13.
     fn copy_first(&self, channel: u8, buffer: &mut [u8]) -> Result<usize, Refusal>
         ensures answer { result ≡ length_of (copy_source (meaning self.now) channel (length buffer.old)) }
         ensures buffer { buffer.new ≡ written_over (copy_source (meaning self.now) channel (length buffer.old)) buffer.old }

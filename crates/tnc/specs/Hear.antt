@@ -20,11 +20,12 @@ step_on (Some body) t out inn = tnc_step t out inn (request_read body)
 abbrev pub hear_call : ℕ → Next → Tnc → Meaning → Meaning → TncStep
 hear_call size n t out inn = cond (nat_lt size longest_wire) (unmoved t out inn) (step_on (body_heard n) t out inn)
 
--- what the body that passed, if one did, and the byte answer
+-- the answer to a frame, as the answer to the byte that ended it
 abbrev pub a_frame : Result Heard Refusal → Result (Option Heard) Refusal
 a_frame (Ok h) = Ok (Some h)
 a_frame (Err e) = Err e
 
+-- what is answered to the body that passed, if one did; and to the byte
 abbrev pub body_answer : Option (List ℕ) → Tnc → Meaning → Meaning → Result (Option Heard) Refusal
 body_answer None t out inn = Ok None
 body_answer (Some body) t out inn = a_frame (frame_answer t out inn (request_read body))

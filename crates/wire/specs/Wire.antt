@@ -52,7 +52,7 @@ Writes d f before after (Ok n) = Written d f before after n
 Writes d f before after (Err ShortWire) = (length before < longest_wire) × (after ≡ before)
 Writes d f before after (Err BadPayload) = (longest_wire ≤ length before) × ((body : List ℕ) → Body d body f → ⊥) × (after ≡ before)
 
--- No wire form is longer than that.
+-- No wire form of a frame is longer than `longest_wire`.
 abbrev pub WireIsShort : Type 0
 WireIsShort = (d : Direction) (body : List ℕ) (f : Frame) → Body d body f → length (wire_of body) ≤ longest_wire
 

@@ -24,9 +24,9 @@ pub struct Picked {
 }
 
 impl Host {
-    /// Sends the first that applies, with the toggle opposite to the last: a general poll if the last answer taken refused
-    /// a block; a poll of the first channel left on the list, which leaves it; the first block of the lowest channel that
-    /// has one; a general poll. Refuses 16 unless idle, and 14.
+    /// Sends one frame, whose toggle is not that of the last answer taken. After an answer that refused a block it is a
+    /// general poll; else, while channels are left on the list, a poll of the first of them, which then leaves it; else,
+    /// where blocks wait, the first on the lowest channel; and else a general poll. Refuses 16 unless idle, and 14.
     pub fn step<O: Store>(&mut self, out: &O, wire: &mut [u8]) -> Result<Stepped, Refusal>
         ensures answer { result ≡ step_answer (host_of self.old.link) (O.Store.meaning out.now) (length wire.old) }
         ensures bound { IfOk result (λ s. s.sent ≤ length wire.old) }
