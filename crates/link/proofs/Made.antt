@@ -12,15 +12,14 @@ use Rattle.ends.specs.Tnc.{Tnc}
 use Rattle.ends.proofs.Fit.{FitRequest, FitAnswer, request_body_is, answer_body_is}
 use Rattle.host.specs.Model.{host_of}
 use Rattle.tnc.specs.Model.{tnc_of}
-use Rattle.law.specs.Runs.{World, Call, Run, after, act, Allowed, after_host, with_written}
-use Rattle.law.specs.Law.{TakesDown, UsedUp}
+use Rattle.law.specs.Runs.{World, Limits, Call, Run, after, act, Allowed, after_host, with_written}
 use Rattle.law.proofs.Law.{delivery_law}
 use Rattle.law.proofs.Fitting.{fits}
 use Rattle.link.specs.declared.pair.Pair.{Pair}
 use Rattle.link.specs.Line.{place_of, next_of}
 use Rattle.link.specs.Sent.{Sent, sent_by, Sends, with_sent}
 use Rattle.link.specs.Log.{Keeps}
-use Rattle.link.specs.Pair.{Stores, stores, world_of, Stands, world, Made, Makes}
+use Rattle.link.specs.Pair.{Stores, stores, world_of, Shows, Made, Makes}
 use Rattle.link.proofs.Wrote.{wire_written, bodies_written, bodies_after, sends}
 
 -- a world by its parts
@@ -58,21 +57,45 @@ same_world p m n up dn tries h he t te f g a b c d e i j =
     ∙ ap (λ x. world_from h he t te f x m up dn tries) i
     ∙ ap (λ x. world_from h he t te f g x up dn tries) j
 
+-- THE WORLD THAT A PAIR SHOWS, BY ITS PARTS
+
+-- the frames behind the bodies that a log has, and the tries
+pub record Parts (p : Pair) : Type 0 where
+  pub up : List Request
+  pub dn : List Answer
+  pub tries : ℕ
+  pub up_is : (sent_by p.log.from_host).written ≡ map request_body up
+  pub dn_is : (sent_by p.log.from_tnc).written ≡ map answer_body dn
+
+abbrev pub world : {p : Pair} → Stores → Parts p → World
+world {p} m s = world_of p m s.up s.dn s.tries
+
+-- what holds of the world by its parts holds of a world that is shown
+pub of_parts : (p : Pair) (m : Stores) (P : World → Type 0) → ((s : Parts p) → P (world m s)) → (w : World) → Shows p m w → P w
+of_parts p m P holds w s = subst P s.all (holds (record { up = w.up; dn = w.dn; tries = w.tries; up_is = s.up_is; dn_is = s.dn_is }))
+
+-- a world that is made of these parts is shown
+pub shown : (q : Pair) (n : Stores) (up : List Request) (dn : List Answer) (tries : ℕ) → (sent_by q.log.from_host).written ≡ map request_body up → (sent_by q.log.from_tnc).written ≡ map answer_body dn
+    → (v : World) → world_of q n up dn tries ≡ v → Shows q n v
+shown q n up dn tries ups dns v is = subst (Shows q n) is (record { up_is = ups; dn_is = dns; all = refl })
+
 -- the run goes on, and the law holds of it
-pub made : (k : Call) (p q : Pair) (m n : Stores) → p.log.gap ≡ None → (s : Stands p m) → Allowed k (world s) → (up : List Request) (dn : List Answer) (tries : ℕ)
-    → world_of q n up dn tries ≡ act k (world s) → (sent_by q.log.from_host).written ≡ map request_body up → (sent_by q.log.from_tnc).written ≡ map answer_body dn
-    → Made k p m q n
-made k p q m n whole s ok up dn tries acts ups dns =
-    let run : Run s.setting s.limits (world_of q n up dn tries) = subst (Run s.setting s.limits) (sym acts) (after s.run k ok) in
-    record {
-      whole = whole;
-      before = s;
-      allowed = ok;
-      after = record { setting = s.setting; limits = s.limits; up = up; dn = dn; tries = tries; up_is = ups; dn_is = dns; run = run };
-      acts = acts;
-      delivers = delivery_law.delivers s.setting s.limits (world_of q n up dn tries) run;
-      falls = λ rep nr. subst (λ v. TakesDown (world s) v ↔ UsedUp (world s) k) (sym acts) (delivery_law.falls s.setting s.limits (world s) s.run rep k ok nr);
-    }
+pub made : (k : Call) (p q : Pair) (m n : Stores) (s : Parts p) → Allowed k (world m s) → (up : List Request) (dn : List Answer) (tries : ℕ)
+    → world_of q n up dn tries ≡ act k (world m s) → (sent_by q.log.from_host).written ≡ map request_body up → (sent_by q.log.from_tnc).written ≡ map answer_body dn
+    → {setting : ℕ} {l : Limits} (r : Run setting l (world m s)) → Made k r q n
+made k p q m n s ok up dn tries acts ups dns {setting} {l} r = record {
+  allowed = ok;
+  shows = shown q n up dn tries ups dns (act k (world m s)) acts;
+  delivers = delivery_law.delivers setting l (act k (world m s)) (after r k ok);
+  falls = λ rep nr. delivery_law.falls setting l (world m s) r rep k ok nr;
+}
+
+-- a call makes what the law says, if it does so of each world by its parts
+pub makes : (k : Call) (p q : Pair) (m n : Stores) → (q.log.gap ≡ None → (p.log.gap ≡ None) × ((s : Parts p) (setting : ℕ) (l : Limits) (r : Run setting l (world m s)) → Made k r q n)) → Makes k p m q n
+makes k p q m n each = record {
+  whole = λ whole. (each whole).0;
+  made = λ whole setting l w r s. of_parts p m (λ v. (t : Run setting l v) → Made k t q n) (λ parts t. (each whole).1 parts setting l t) w s r;
+}
 
 request_fits : (q : Request) → FitRequest q → (x : Frame) × Body FromHost (request_body q) x
 request_fits q f = (request_frame q, request_body_is q f)
@@ -83,39 +106,42 @@ answer_fits a f = (answer_frame a, answer_body_is a f)
 -- a call of the host that hears nothing
 module _ (k : Call) (p q : Pair) (m n : Stores) (S : HostStep) (T : ℕ → ℕ) (bytes : List ℕ) (word : Word) where
   pub host_makes :
-      ((s : Stands p m) → act k (world s) ≡ after_host S (world s).dn_at (world s).dn_next (T s.tries) (world s))
-      → ((s : Stands p m) → Allowed k (world s))
+      ((s : Parts p) → act k (world m s) ≡ after_host S (world m s).dn_at (world m s).dn_next (T s.tries) (world m s))
+      → ((s : Parts p) → Allowed k (world m s))
       → n ≡ stores S.out S.inn m.tnc_out m.tnc_in
       → host_of q.host.link ≡ S.host → q.host.ear ≡ p.host.ear → q.tnc ≡ p.tnc
       → q.log.from_tnc ≡ p.log.from_tnc
       → Keeps p.log q.log ((written : List (List ℕ)) → Sends FromHost bytes written → sent_by q.log.from_host ≡ with_sent (sent_by p.log.from_host) written word)
       → bytes ≡ wire_written request_body S.wrote → word ≡ S.word
       → Makes k p m q n
-  host_makes acts allowed into host ear tnc other keeps wrote named reached whole =
-      let kept = keeps whole in
-      let s = reached kept.0 in
-      let ok = allowed s in
-      let all : AllByRecursion FitRequest (with_written s.up S.wrote) = subst (λ (w : World). AllByRecursion FitRequest w.up) (acts s) (fits (after s.run k ok)).up in
-      let sent = kept.1 (bodies_written request_body S.wrote) (sends request_body FromHost FitRequest request_fits s.up S.wrote all bytes wrote) ∙ ap (with_sent (sent_by p.log.from_host) (bodies_written request_body S.wrote)) named in
-      made k p q m n kept.0 s ok (with_written s.up S.wrote) s.dn (T s.tries)
-      (same_world q n (stores S.out S.inn m.tnc_out m.tnc_in) _ _ _ S.host (heard_by p.host.ear) (tnc_of p.tnc.link) (heard_by p.tnc.ear) (with_sent (sent_by p.log.from_host) (bodies_written request_body S.wrote) S.word) (sent_by p.log.from_tnc)
-      host (ap heard_by ear) (ap (λ t. tnc_of t.link) tnc) (ap (λ t. heard_by t.ear) tnc) sent (ap sent_by other) into ∙ sym (acts s))
-      (ap (λ (x : Sent). x.written) sent ∙ ap (λ l. l ++ bodies_written request_body S.wrote) s.up_is ∙ sym (bodies_after request_body s.up S.wrote))
-      (ap (λ l. (sent_by l).written) other ∙ s.dn_is)
+  host_makes acts allowed into host ear tnc other keeps wrote named = makes k p q m n (λ whole.
+      let kept = keeps whole in (
+        kept.0,
+        λ s setting l r.
+            let ok = allowed s in
+            let all : AllByRecursion FitRequest (with_written s.up S.wrote) = subst (λ (w : World). AllByRecursion FitRequest w.up) (acts s) (fits (after r k ok)).up in
+            let sent = kept.1 (bodies_written request_body S.wrote) (sends request_body FromHost FitRequest request_fits s.up S.wrote all bytes wrote) ∙ ap (with_sent (sent_by p.log.from_host) (bodies_written request_body S.wrote)) named in
+            made k p q m n s ok (with_written s.up S.wrote) s.dn (T s.tries)
+            (same_world q n (stores S.out S.inn m.tnc_out m.tnc_in) _ _ _ S.host (heard_by p.host.ear) (tnc_of p.tnc.link) (heard_by p.tnc.ear) (with_sent (sent_by p.log.from_host) (bodies_written request_body S.wrote) S.word) (sent_by p.log.from_tnc)
+            host (ap heard_by ear) (ap (λ t. tnc_of t.link) tnc) (ap (λ t. heard_by t.ear) tnc) sent (ap sent_by other) into ∙ sym (acts s))
+            (ap (λ (x : Sent). x.written) sent ∙ ap (λ l. l ++ bodies_written request_body S.wrote) s.up_is ∙ sym (bodies_after request_body s.up S.wrote))
+            (ap (λ l. (sent_by l).written) other ∙ s.dn_is) r,
+      ))
 
 -- a call that neither writes nor hears
 module _ (k : Call) (p q : Pair) (m n : Stores) (h : Host) (t : Tnc) (f g : Sent) where
   pub quiet_makes :
-      ((s : Stands p m) → act k (world s) ≡ world_from h (heard_by p.host.ear) t (heard_by p.tnc.ear) f g n s.up s.dn s.tries)
-      → ((s : Stands p m) → Allowed k (world s))
+      ((s : Parts p) → act k (world m s) ≡ world_from h (heard_by p.host.ear) t (heard_by p.tnc.ear) f g n s.up s.dn s.tries)
+      → ((s : Parts p) → Allowed k (world m s))
       → host_of q.host.link ≡ h → q.host.ear ≡ p.host.ear → tnc_of q.tnc.link ≡ t → q.tnc.ear ≡ p.tnc.ear
       → Keeps p.log q.log ((sent_by q.log.from_host ≡ f) × (sent_by q.log.from_tnc ≡ g))
       → f.written ≡ (sent_by p.log.from_host).written → g.written ≡ (sent_by p.log.from_tnc).written
       → Makes k p m q n
-  quiet_makes acts allowed host host_ear tnc tnc_ear keeps ups dns reached whole =
-      let kept = keeps whole in
-      let s = reached kept.0 in
-      made k p q m n kept.0 s (allowed s) s.up s.dn s.tries
-      (same_world q n n s.up s.dn s.tries h (heard_by p.host.ear) t (heard_by p.tnc.ear) f g host (ap heard_by host_ear) tnc (ap heard_by tnc_ear) kept.1.0 kept.1.1 refl ∙ sym (acts s))
-      (ap (λ (x : Sent). x.written) kept.1.0 ∙ ups ∙ s.up_is)
-      (ap (λ (x : Sent). x.written) kept.1.1 ∙ dns ∙ s.dn_is)
+  quiet_makes acts allowed host host_ear tnc tnc_ear keeps ups dns = makes k p q m n (λ whole.
+      let kept = keeps whole in (
+        kept.0,
+        λ s setting l r. made k p q m n s (allowed s) s.up s.dn s.tries
+            (same_world q n n s.up s.dn s.tries h (heard_by p.host.ear) t (heard_by p.tnc.ear) f g host (ap heard_by host_ear) tnc (ap heard_by tnc_ear) kept.1.0 kept.1.1 refl ∙ sym (acts s))
+            (ap (λ (x : Sent). x.written) kept.1.0 ∙ ups ∙ s.up_is)
+            (ap (λ (x : Sent). x.written) kept.1.1 ∙ dns ∙ s.dn_is) r,
+      ))

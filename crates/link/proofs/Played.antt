@@ -1,40 +1,41 @@
 -- A list of calls that were played goes on by one call more.
-use Rattle.std.proofs.Common.{◌≡◌, ℕ, ◌+◌, ◌<◌, List, length, get_or, take, Some, None, Option, sym, subst}
+use Rattle.std.proofs.Common.{◌≡◌, ℕ, ◌+◌, ◌<◌, List, ◌∷◌, [], ◌++◌, length, get_or, take, Some, None, Option, sym, refl, subst}
 use Rattle.std.proofs.lemmas.List.{take_more}
 use Rattle.host.specs.declared.note.DoubtNote.{DoubtNote}
+use Rattle.law.specs.Runs as law
+use Rattle.law.specs.Runs.{World, Limits, Run, after, act}
 use Rattle.link.specs.declared.call.Call.{Call}
-use Rattle.link.specs.declared.call.Call.TheVariants as call
 use Rattle.link.specs.declared.pair.Pair.{Pair}
-use Rattle.link.specs.Pair.{Stores, Reached}
-use Rattle.link.specs.Played.{AgainBy, MadeBy, Goes, Played, none, more}
-
-again_reached : (b : List ℕ) (note after : Option DoubtNote) {p q : Pair} {m n : Stores} → AgainBy b note p m q n after → Reached p m → Reached q n
-again_reached b None after {p} {q} {m} {n} made r = subst (λ (x : Stores). Reached q x) (sym made.1) (subst (λ (x : Pair). Reached x m) (sym made.0) r)
-again_reached b (Some note) after made r = λ whole. made.0.after
-
-one_reached : (k : Call) (old after : Option DoubtNote) {p q : Pair} {m n : Stores} → MadeBy k p m old q n after → Reached p m → Reached q n
-one_reached call.HostOpen old after made r = λ whole. made.0.after
-one_reached call.HostStep old after made r = λ whole. made.0.after
-one_reached call.HostTimer old after made r = λ whole. made.0.after
-one_reached (call.HostHear byte place) old after made r = λ whole. made.0.after
-one_reached (call.HostSubmit c b) old after made r = λ whole. made.0.after
-one_reached (call.HostSubmitAgain b) old after made r = again_reached b.now old after made r
-one_reached (call.HostCollect c) old after made r = λ whole. made.0.after
-one_reached (call.TncHear byte place) old after made r = λ whole. made.0.after
-one_reached (call.TncSubmit c b) old after made r = λ whole. made.0.after
-one_reached (call.TncCollect c) old after made r = λ whole. made.0.after
-
-all_reached : {p : Pair} {m : Stores} {note : Option DoubtNote} {ks : List Call} {q : Pair} {n : Stores} {after : Option DoubtNote} → Played p m note ks q n after → Reached p m → Reached q n
-all_reached none r = r
-all_reached (more ks k {held = held} {after = after} before made) r = one_reached k held after made (all_reached before r)
+use Rattle.link.specs.Pair.{Stores, Shows, Made}
+use Rattle.link.specs.Played.{law_call, note_after, Goes, Played, none, more, no_note, PlayedOn, Plays}
 
 module _ (p : Pair) (m : Stores) (note : Option DoubtNote) where
-  -- what is known of a list that was played so far
-  abbrev pub PlayedIf : List Call → Pair → Stores → Option DoubtNote → Type 0
-  PlayedIf ks q n held = Reached p m → q.log.gap ≡ None → Played p m note ks q n held
+  pub none_played : Plays p m note [] p m note
+  none_played whole = (whole, λ setting l w r s. record { reached = w; run = r; played = none; shows = s })
 
-  pub one_more : (calls : List Call) (i : ℕ) (d : Call) (q r : Pair) (n o : Stores) (held after : Option DoubtNote) → i < length calls
-      → PlayedIf (take i calls) q n held → Goes (get_or calls i d) q n held r o after → PlayedIf (take (i + 1) calls) r o after
-  one_more calls i d q r n o held after low before goes reached whole =
-      let go = goes (λ g. all_reached (before reached g) reached g) whole in
-      subst (λ (ks : List Call). Played p m note ks r o after) (sym (take_more calls i d low)) (more (take i calls) (get_or calls i d) (before reached go.0) go.1)
+  next : (ks : List Call) (k : Call) (q r : Pair) (n o : Stores) (held : Option DoubtNote) (c : Option law.Call) → law_call k held ≡ c → Goes c q n r o
+      → Plays p m note ks q n held → Plays p m note (ks ++ k ∷ []) r o (note_after k held q n)
+  next ks k q r n o held None is goes before =
+      let on : Plays p m note (ks ++ k ∷ []) q n (note_after k held q n) = λ whole.
+      let b = before whole in (
+        b.0,
+        λ setting l w run s.
+            let on = b.1 setting l w run s in
+            record { reached = on.reached; run = on.run; played = no_note ks k on.played is; shows = on.shows },
+      ) in
+      subst (λ (x : Pair). Plays p m note (ks ++ k ∷ []) x o (note_after k held q n)) (sym goes.0)
+      (subst (λ (x : Stores). Plays p m note (ks ++ k ∷ []) q x (note_after k held q n)) (sym goes.1) on)
+  next ks k q r n o held (Some c) is goes before = λ whole.
+      let b = before (goes.whole whole) in (
+        b.0,
+        λ setting l w run s.
+            let on = b.1 setting l w run s in
+            let made = goes.made whole setting l on.reached on.run on.shows in
+            record { reached = act c on.reached; run = after on.run c made.allowed; played = more ks k c on.played is made; shows = made.shows },
+      )
+
+  pub one_more : (calls : List Call) (i : ℕ) (d : Call) (q r : Pair) (n o : Stores) (held : Option DoubtNote) → i < length calls
+      → Plays p m note (take i calls) q n held → Goes (law_call (get_or calls i d) held) q n r o → Plays p m note (take (i + 1) calls) r o (note_after (get_or calls i d) held q n)
+  one_more calls i d q r n o held low before goes =
+      subst (λ (ks : List Call). Plays p m note ks r o (note_after (get_or calls i d) held q n)) (sym (take_more calls i d low))
+      (next (take i calls) (get_or calls i d) q r n o held (law_call (get_or calls i d) held) refl goes before)

@@ -48,36 +48,24 @@ world_of p m up dn tries = record {
   tries = tries;
 }
 
--- a run of the law reaches exactly this pair and these stores
-pub record Stands (p : Pair) (m : Stores) : Type 0 where
-  pub setting : ℕ
-  pub limits : Limits
-  pub up : List Request
-  pub dn : List Answer
-  pub tries : ℕ
-  pub up_is : (sent_by p.log.from_host).written ≡ map request_body up
-  pub dn_is : (sent_by p.log.from_tnc).written ≡ map answer_body dn
-  pub run : Run setting limits (world_of p m up dn tries)
+-- a pair and its stores show a world: the log has the bodies of its frames, and all else of it is as the pair and the stores are
+pub record Shows (p : Pair) (m : Stores) (w : World) : Type 0 where
+  pub up_is : (sent_by p.log.from_host).written ≡ map request_body w.up
+  pub dn_is : (sent_by p.log.from_tnc).written ≡ map answer_body w.dn
+  pub all : world_of p m w.up w.dn w.tries ≡ w
 
-abbrev pub world : {p : Pair} {m : Stores} → Stands p m → World
-world {p} {m} s = world_of p m s.up s.dn s.tries
+-- What the law says of a call after a run r that reached w. The line rule allowed it, and it is the law's own call: the run goes
+-- on by it, and q and n show the world that it then reaches. In that world delivery holds on every channel and both ways. And
+-- where the lines have repeated nothing, the call took the link down exactly if it is a granted timer of a frame that has had
+-- all its repeats.
+pub record Made (k : Call) {setting : ℕ} {l : Limits} {w : World} (r : Run setting l w) (q : Pair) (n : Stores) : Type 0 where
+  pub allowed : Allowed k w
+  pub shows : Shows q n (act k w)
+  pub delivers : (c : ℕ) → c ≤ last_channel → Delivery (act k w) c
+  pub falls : RepeatsNothing r → NotRepeated k w → TakesDown w (act k w) ↔ UsedUp w k
 
--- so it is, as long as the log is whole
-abbrev pub Reached : Pair → Stores → Type 0
-Reached p m = p.log.gap ≡ None → Stands p m
-
--- What the law says of a call that made q and n of p and m. The line rule allowed it, and it is the law's own call: the run goes
--- on by it to exactly q and n. After it, delivery holds on every channel and both ways. And where the lines have repeated
--- nothing, it takes the link down exactly if it is a granted timer of a frame that has had all its repeats.
-pub record Made (k : Call) (p : Pair) (m : Stores) (q : Pair) (n : Stores) : Type 0 where
-  pub whole : p.log.gap ≡ None
-  pub before : Stands p m
-  pub allowed : Allowed k (world before)
-  pub after : Stands q n
-  pub acts : world after ≡ act k (world before)
-  pub delivers : (c : ℕ) → c ≤ last_channel → Delivery (world after) c
-  pub falls : RepeatsNothing before.run → NotRepeated k (world before) → TakesDown (world before) (world after) ↔ UsedUp (world before) k
-
--- the same as long as the log is whole
-abbrev pub Makes : Call → Pair → Stores → Pair → Stores → Type 0
-Makes k p m q n = Reached p m → q.log.gap ≡ None → Made k p m q n
+-- So it is after every run that reached a world which p and m show. It is said where the log is whole after the call; then it
+-- was whole before it.
+pub record Makes (k : Call) (p : Pair) (m : Stores) (q : Pair) (n : Stores) : Type 0 where
+  pub whole : q.log.gap ≡ None → p.log.gap ≡ None
+  pub made : q.log.gap ≡ None → (setting : ℕ) (l : Limits) (w : World) (r : Run setting l w) → Shows p m w → Made k r q n

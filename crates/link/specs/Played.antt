@@ -3,7 +3,8 @@ use Rattle.std.specs.Prelude.{◌≡◌, ℕ, List, [], ◌∷◌, ◌++◌, Som
 use Rattle.frame.specs.Frame.{longest_block}
 use Rattle.wire.specs.Wire.{longest_wire}
 use Rattle.store.specs.Meaning.{plain}
-use Rattle.law.specs.Runs.{host_open, host_step, host_timer, host_hear, host_submit, host_submit_again, host_collect, tnc_hear, tnc_submit, tnc_collect}
+use Rattle.law.specs.Runs as law
+use Rattle.law.specs.Runs.{World, Limits, Run, after, act, host_open, host_step, host_timer, host_hear, host_submit, host_submit_again, host_collect, tnc_hear, tnc_submit, tnc_collect}
 use Rattle.reader.specs.Read.{hears}
 use Rattle.ends.specs.declared.refusal.Refusal.{Refusal}
 use Rattle.ends.specs.Blocks.{submit_answer}
@@ -22,7 +23,7 @@ use Rattle.link.specs.declared.call.Answer.TheVariants as answer
 use Rattle.link.specs.declared.call.Call.{Call}
 use Rattle.link.specs.declared.call.Call.TheVariants as call
 use Rattle.link.specs.declared.pair.Pair.{Pair}
-use Rattle.link.specs.Pair.{Stores, Reached, Made}
+use Rattle.link.specs.Pair.{Stores, Shows, Made, Makes}
 
 -- the note that a call hands out, or hands back
 abbrev pub timed_note : Result Timed Refusal → Option DoubtNote
@@ -68,31 +69,63 @@ later held None = held
 later held (Some new) = Some new
 
 -- a submission once more, by the note that is held; where none is, there is no call
-abbrev pub AgainBy : List ℕ → Option DoubtNote → Pair → Stores → Pair → Stores → Option DoubtNote → Type 0
-AgainBy b None p m q n after = (q ≡ p) × (n ≡ m) × (after ≡ None)
-AgainBy b (Some note) p m q n after = Made (host_submit_again note.channel note.number (plain b)) p m q n
-    × (after ≡ again_note (again_answer (submit_answer (host_of p.host.link).submitted m.host_out note.channel (plain b)) note))
+abbrev pub again_call : List ℕ → Option DoubtNote → Option law.Call
+again_call b None = None
+again_call b (Some d) = Some (host_submit_again d.channel d.number (plain b))
 
--- one call, with buffers as long as is asked, and the note before and after it
-abbrev pub MadeBy : Call → Pair → Stores → Option DoubtNote → Pair → Stores → Option DoubtNote → Type 0
-MadeBy call.HostOpen p m note q n after = Made (host_open longest_wire) p m q n × (after ≡ note)
-MadeBy call.HostStep p m note q n after = Made (host_step longest_wire) p m q n × (after ≡ note)
-MadeBy call.HostTimer p m note q n after = Made (host_timer longest_wire) p m q n
-    × (after ≡ later note (timed_note (timer_answer (host_of p.host.link) longest_wire)))
-MadeBy (call.HostHear byte place) p m note q n after = Made (host_hear byte place) p m q n
-    × (after ≡ later note (heard_note (hear_answer (hears (heard_by p.host.ear) byte) (host_of p.host.link) m.host_out m.host_in)))
-MadeBy (call.HostSubmit c b) p m note q n after = Made (host_submit c (plain b.now)) p m q n × (after ≡ note)
-MadeBy (call.HostSubmitAgain b) p m note q n after = AgainBy b.now note p m q n after
-MadeBy (call.HostCollect c) p m note q n after = Made (host_collect c longest_block) p m q n × (after ≡ note)
-MadeBy (call.TncHear byte place) p m note q n after = Made (tnc_hear longest_wire byte place) p m q n × (after ≡ note)
-MadeBy (call.TncSubmit c b) p m note q n after = Made (tnc_submit c (plain b.now)) p m q n × (after ≡ note)
-MadeBy (call.TncCollect c) p m note q n after = Made (tnc_collect c longest_block) p m q n × (after ≡ note)
+abbrev pub again_after : List ℕ → Option DoubtNote → Pair → Stores → Option DoubtNote
+again_after b None p m = None
+again_after b (Some d) p m = again_note (again_answer (submit_answer (host_of p.host.link).submitted m.host_out d.channel (plain b)) d)
 
--- as long as the log is whole
-abbrev pub Goes : Call → Pair → Stores → Option DoubtNote → Pair → Stores → Option DoubtNote → Type 0
-Goes k p m note q n after = Reached p m → q.log.gap ≡ None → (p.log.gap ≡ None) × MadeBy k p m note q n after
+-- the law's call that is made, with buffers as long as is asked
+abbrev pub law_call : Call → Option DoubtNote → Option law.Call
+law_call call.HostOpen held = Some (host_open longest_wire)
+law_call call.HostStep held = Some (host_step longest_wire)
+law_call call.HostTimer held = Some (host_timer longest_wire)
+law_call (call.HostHear byte place) held = Some (host_hear byte place)
+law_call (call.HostSubmit c b) held = Some (host_submit c (plain b.now))
+law_call (call.HostSubmitAgain b) held = again_call b.now held
+law_call (call.HostCollect c) held = Some (host_collect c longest_block)
+law_call (call.TncHear byte place) held = Some (tnc_hear longest_wire byte place)
+law_call (call.TncSubmit c b) held = Some (tnc_submit c (plain b.now))
+law_call (call.TncCollect c) held = Some (tnc_collect c longest_block)
 
--- the calls of a list, one after the other
-pub data Played (p : Pair) (m : Stores) (note : Option DoubtNote) : List Call → Pair → Stores → Option DoubtNote → Type 0 where
-  none : Played p m note [] p m note
-  more : (ks : List Call) (k : Call) {q r : Pair} {n o : Stores} {held after : Option DoubtNote} → Played p m note ks q n held → MadeBy k q n held r o after → Played p m note (ks ++ k ∷ []) r o after
+-- the note that is held after it
+abbrev pub note_after : Call → Option DoubtNote → Pair → Stores → Option DoubtNote
+note_after call.HostOpen held p m = held
+note_after call.HostStep held p m = held
+note_after call.HostTimer held p m = later held (timed_note (timer_answer (host_of p.host.link) longest_wire))
+note_after (call.HostHear byte place) held p m = later held (heard_note (hear_answer (hears (heard_by p.host.ear) byte) (host_of p.host.link) m.host_out m.host_in))
+note_after (call.HostSubmit c b) held p m = held
+note_after (call.HostSubmitAgain b) held p m = again_after b.now held p m
+note_after (call.HostCollect c) held p m = held
+note_after (call.TncHear byte place) held p m = held
+note_after (call.TncSubmit c b) held p m = held
+note_after (call.TncCollect c) held p m = held
+
+-- one call: what the law says of it; where there is none to make, all stays
+abbrev pub Goes : Option law.Call → Pair → Stores → Pair → Stores → Type 0
+Goes None p m q n = (q ≡ p) × (n ≡ m)
+Goes (Some k) p m q n = Makes k p m q n
+
+-- The calls of a list, one after the other, after a run r: each as the law says, after the run that the calls before it have made
+-- of r. q and n are what is then left, with the note that is held, and t is the run so far.
+pub data Played (p : Pair) (m : Stores) (note : Option DoubtNote) {setting : ℕ} {l : Limits} {w : World} (r : Run setting l w) : List Call → Pair → Stores → Option DoubtNote → (v : World) → Run setting l v → Type 0 where
+  none : Played p m note r [] p m note w r
+  more : (ks : List Call) (k : Call) (c : law.Call) {q o : Pair} {n i : Stores} {held : Option DoubtNote} {v : World} {t : Run setting l v}
+      → Played p m note r ks q n held v t → law_call k held ≡ Some c → (made : Made c t o i)
+      → Played p m note r (ks ++ k ∷ []) o i (note_after k held q n) (act c v) (after t c made.allowed)
+  no_note : (ks : List Call) (k : Call) {q : Pair} {n : Stores} {held : Option DoubtNote} {v : World} {t : Run setting l v}
+      → Played p m note r ks q n held v t → law_call k held ≡ None
+      → Played p m note r (ks ++ k ∷ []) q n (note_after k held q n) v t
+
+-- a list was played, and what it left shows the world that the run then has reached
+pub record PlayedOn (p : Pair) (m : Stores) (note : Option DoubtNote) {setting : ℕ} {l : Limits} {w : World} (r : Run setting l w) (ks : List Call) (q : Pair) (n : Stores) (held : Option DoubtNote) : Type 0 where
+  pub reached : World
+  pub run : Run setting l reached
+  pub played : Played p m note r ks q n held reached run
+  pub shows : Shows q n reached
+
+-- so it is after every run that reached a world which p and m show, as long as the log is whole
+abbrev pub Plays : Pair → Stores → Option DoubtNote → List Call → Pair → Stores → Option DoubtNote → Type 0
+Plays p m note ks q n held = q.log.gap ≡ None → (p.log.gap ≡ None) × ((setting : ℕ) (l : Limits) (w : World) (r : Run setting l w) → Shows p m w → PlayedOn p m note r ks q n held)

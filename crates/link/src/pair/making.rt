@@ -2,8 +2,8 @@
 ghost use Rattle.std.specs.Prelude.{◌≡◌, ◌<◌, None, MatchResult};
 ghost use Rattle.ends.specs.declared.refusal.Refusal.TheVariants.{ManyRepeats};
 ghost use Rattle.ends.specs.Limits.{most_repeats};
-ghost use Rattle.law.specs.Runs.{Limits};
-ghost use Rattle.link.specs.Pair.{empty_stores, Stands};
+ghost use Rattle.law.specs.Runs.{Limits, begin};
+ghost use Rattle.link.specs.Pair.{empty_stores, Shows};
 
 use super::Pair;
 use crate::log::Log;
@@ -13,9 +13,9 @@ use std::alloc::Global;
 use tnc::tnc::Tnc;
 
 impl Pair {
-    /// Two ends as they are made; refuses 18 above 15 repeats. With empty stores they stand at the beginning of a run.
+    /// Two ends as they are made; refuses 18 above 15 repeats. With empty stores they show the world in which runs begin.
     pub fn new(heap: Global, repeats: u8) -> Result<Pair, Refusal>
-        ensures { MatchResult result (λ p. (p.log.gap ≡ None) × ((l : Limits) → Stands p (empty_stores l))) (λ e. (most_repeats < repeats) × (e ≡ ManyRepeats)) }
+        ensures { MatchResult result (λ p. (p.log.gap ≡ None) × ((l : Limits) → Shows p (empty_stores l) (begin repeats l))) (λ e. (most_repeats < repeats) × (e ≡ ManyRepeats)) }
     {
         Ok(Pair {
             host: Host::new(repeats)?,

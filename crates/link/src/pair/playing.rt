@@ -1,8 +1,8 @@
 // Playing a list of calls on a pair, with the law after each.
-ghost use Rattle.std.specs.Prelude.{◌≡◌, None};
+ghost use Rattle.std.specs.Prelude.{◌≡◌};
 ghost use Rattle.store.specs.Meaning.{Meaning};
-ghost use Rattle.link.specs.Pair.{stores, Reached};
-ghost use Rattle.link.specs.Played.{note_of, later, AgainBy, Goes, Played};
+ghost use Rattle.link.specs.Pair.{stores};
+ghost use Rattle.link.specs.Played.{note_of, later, again_call, again_after, law_call, note_after, Goes, Plays};
 
 use super::Pair;
 use crate::call::{Answer, Call, Stores};
@@ -33,7 +33,7 @@ impl Pair {
         calls: &[Call],
         watch: &mut W,
     ) -> Option<DoubtNote>
-        ensures law { Reached self.old (stores (A.Store.meaning s.old.host_out) (B.Store.meaning s.old.host_in) (C.Store.meaning s.old.tnc_out) (D.Store.meaning s.old.tnc_in)) → self.new.log.gap ≡ None → Played self.old (stores (A.Store.meaning s.old.host_out) (B.Store.meaning s.old.host_in) (C.Store.meaning s.old.tnc_out) (D.Store.meaning s.old.tnc_in)) note calls.now self.new (stores (A.Store.meaning s.new.host_out) (B.Store.meaning s.new.host_in) (C.Store.meaning s.new.tnc_out) (D.Store.meaning s.new.tnc_in)) result }
+        ensures law { Plays self.old (stores (A.Store.meaning s.old.host_out) (B.Store.meaning s.old.host_in) (C.Store.meaning s.old.tnc_out) (D.Store.meaning s.old.tnc_in)) note calls.now self.new (stores (A.Store.meaning s.new.host_out) (B.Store.meaning s.new.host_in) (C.Store.meaning s.new.tnc_out) (D.Store.meaning s.new.tnc_in)) result }
     {
         let mut held = note;
         let mut buffers = Buffers {
@@ -56,7 +56,8 @@ impl Pair {
         note: Option<DoubtNote>,
         buffers: &mut Buffers,
     ) -> (Answer, Option<DoubtNote>)
-        ensures law { Goes call.entry self.old (stores (A.Store.meaning s.old.host_out) (B.Store.meaning s.old.host_in) (C.Store.meaning s.old.tnc_out) (D.Store.meaning s.old.tnc_in)) note self.new (stores (A.Store.meaning s.new.host_out) (B.Store.meaning s.new.host_in) (C.Store.meaning s.new.tnc_out) (D.Store.meaning s.new.tnc_in)) (later result.1 (note_of result.0)) }
+        ensures law { Goes (law_call call.entry note) self.old (stores (A.Store.meaning s.old.host_out) (B.Store.meaning s.old.host_in) (C.Store.meaning s.old.tnc_out) (D.Store.meaning s.old.tnc_in)) self.new (stores (A.Store.meaning s.new.host_out) (B.Store.meaning s.new.host_in) (C.Store.meaning s.new.tnc_out) (D.Store.meaning s.new.tnc_in)) }
+        ensures note { later result.1 (note_of result.0) ≡ note_after call.entry note self.old (stores (A.Store.meaning s.old.host_out) (B.Store.meaning s.old.host_in) (C.Store.meaning s.old.tnc_out) (D.Store.meaning s.old.tnc_in)) }
     {
         let answer = match call {
             Call::HostOpen => Answer::Opened(self.host_open(&mut buffers.wire)),
@@ -97,7 +98,8 @@ impl Pair {
 
     // Submits once more by the note, if there is one.
     fn again<A: Store>(&mut self, out: &mut A, note: Option<DoubtNote>, block: &[u8]) -> Answer
-        ensures law { (hi to ti : Meaning) → Reached self.old (stores (A.Store.meaning out.old) hi to ti) → self.new.log.gap ≡ None → (self.old.log.gap ≡ None) × AgainBy block.now note self.old (stores (A.Store.meaning out.old) hi to ti) self.new (stores (A.Store.meaning out.new) hi to ti) (note_of result) }
+        ensures law { (hi to ti : Meaning) → Goes (again_call block.now note) self.old (stores (A.Store.meaning out.old) hi to ti) self.new (stores (A.Store.meaning out.new) hi to ti) }
+        ensures note { (hi to ti : Meaning) → note_of result ≡ again_after block.now note self.old (stores (A.Store.meaning out.old) hi to ti) }
     {
         match note {
             Some(note) => Answer::SubmittedAgain(self.host_submit_again(out, note, block)),
