@@ -9,4 +9,5 @@ mod Handed
 mod Quiet
 mod Heard
 mod TncHeard
+mod Gaps
 mod Played

@@ -1,13 +1,14 @@
 // What has happened on both ways, and whether all of it is kept.
-ghost use Rattle.std.specs.Prelude.{◌≡◌, ◌≤◌, ℕ, List, true, [], ◌∷◌, Some, None, length, IsOk};
-ghost use Rattle.std.specs.Option.{option_map, option_or};
+ghost use Rattle.std.specs.Prelude.{◌≡◌, ◌≤◌, ℕ, List, true, false, [], ◌∷◌, None, length, IsOk, MatchResult};
+ghost use Rattle.std.specs.Option.{option_map};
 ghost use Rattle.frame.specs.declared.form.Direction.TheVariants.{FromHost, FromTnc};
 ghost use Rattle.frame.specs.Frame.{longest_block};
 ghost use Rattle.store.specs.Meaning.{plain};
 ghost use Rattle.ends.specs.Named.{word_of};
 ghost use Rattle.law.specs.Runs.{submitting, collecting};
 ghost use Rattle.link.specs.Sent.{nothing_sent, sent_by, Sends, MayPass, with_sent, after_pass, with_way};
-ghost use Rattle.link.specs.Log.{Keeps};
+ghost use Rattle.link.specs.declared.log.Gap.TheVariants.{NoMemory};
+ghost use Rattle.link.specs.Log.{Keeps, with_gap, GapAfter, GapHeard, to_keep};
 
 use crate::sender::Sender;
 use ends::name::Went;
@@ -67,7 +68,7 @@ impl Log {
 
     // The first gap stays.
     fn note(&mut self, gap: Gap)
-        ensures gap { self.new.gap ≡ option_or self.old.gap (Some gap) }
+        ensures gap { self.new.gap ≡ with_gap self.old.gap gap }
         ensures same { (self.new.from_host ≡ self.old.from_host) × (self.new.from_tnc ≡ self.old.from_tnc) }
     {
         if self.gap.is_none() {
@@ -76,7 +77,8 @@ impl Log {
     }
 
     fn keep(&mut self, done: Result<(), AllocError>)
-        ensures gap { Keeps self.old self.new (IsOk done) }
+        ensures whole { Keeps self.old self.new (IsOk done) }
+        ensures gap { MatchResult done (λ x. self.new.gap ≡ self.old.gap) (λ e. self.new.gap ≡ with_gap self.old.gap NoMemory) }
         ensures same { (self.new.from_host ≡ self.old.from_host) × (self.new.from_tnc ≡ self.old.from_tnc) }
     {
         if done.is_err() {
@@ -88,6 +90,7 @@ impl Log {
     pub(crate) fn host_did(&mut self, wire: &[u8], went: Option<Went>)
         ensures host { Keeps self.old self.new ((written : List (List ℕ)) → Sends FromHost wire.now written → sent_by self.new.from_host ≡ with_sent (sent_by self.old.from_host) written (word_of went)) }
         ensures tnc { self.new.from_tnc ≡ self.old.from_tnc }
+        ensures gap { GapAfter (to_keep wire.now (word_of went)) self.old.gap self.new.gap }
     {
         let done = self.from_host.did(Direction::FromHost, wire, went);
         self.keep(done);
@@ -97,6 +100,7 @@ impl Log {
     pub(crate) fn tnc_did(&mut self, wire: &[u8], went: Option<Went>)
         ensures tnc { Keeps self.old self.new ((written : List (List ℕ)) → Sends FromTnc wire.now written → sent_by self.new.from_tnc ≡ with_sent (sent_by self.old.from_tnc) written (word_of went)) }
         ensures host { self.new.from_host ≡ self.old.from_host }
+        ensures gap { GapAfter (to_keep wire.now (word_of went)) self.old.gap self.new.gap }
     {
         let done = self.from_tnc.did(Direction::FromTnc, wire, went);
         self.keep(done);
@@ -107,6 +111,7 @@ impl Log {
         ensures tnc { Keeps self.old self.new (MayPass (sent_by self.old.from_tnc) place (option_map (λ x. x.now) body.entry)) }
         ensures passed { sent_by self.new.from_tnc ≡ after_pass (sent_by self.old.from_tnc) place (option_map (λ x. x.now) body.entry) }
         ensures host { self.new.from_host ≡ self.old.from_host }
+        ensures gap { GapHeard (MayPass (sent_by self.old.from_tnc) place (option_map (λ x. x.now) body.entry)) false self.old.gap self.new.gap }
     {
         if let Some(body) = body {
             if !self.from_tnc.pass(place, body) {
@@ -120,6 +125,7 @@ impl Log {
         ensures host { Keeps self.old self.new (MayPass (sent_by self.old.from_host) place (option_map (λ x. x.now) body.entry)) }
         ensures passed { sent_by self.new.from_host ≡ after_pass (sent_by self.old.from_host) place (option_map (λ x. x.now) body.entry) }
         ensures tnc { self.new.from_tnc ≡ self.old.from_tnc }
+        ensures gap { GapHeard (MayPass (sent_by self.old.from_host) place (option_map (λ x. x.now) body.entry)) false self.old.gap self.new.gap }
     {
         if let Some(body) = body {
             if !self.from_host.pass(place, body) {
@@ -132,6 +138,7 @@ impl Log {
     pub(crate) fn host_submitted(&mut self, channel: u8, block: &[u8])
         ensures host { Keeps self.old self.new (length block.now ≤ longest_block → sent_by self.new.from_host ≡ with_way (sent_by self.old.from_host) (submitting true channel (plain block.now) (sent_by self.old.from_host).way)) }
         ensures tnc { self.new.from_tnc ≡ self.old.from_tnc }
+        ensures gap { GapAfter true self.old.gap self.new.gap }
     {
         let done = self.from_host.submit(channel, block);
         self.keep(done);
@@ -141,6 +148,7 @@ impl Log {
     pub(crate) fn tnc_submitted(&mut self, channel: u8, block: &[u8])
         ensures tnc { Keeps self.old self.new (length block.now ≤ longest_block → sent_by self.new.from_tnc ≡ with_way (sent_by self.old.from_tnc) (submitting true channel (plain block.now) (sent_by self.old.from_tnc).way)) }
         ensures host { self.new.from_host ≡ self.old.from_host }
+        ensures gap { GapAfter true self.old.gap self.new.gap }
     {
         let done = self.from_tnc.submit(channel, block);
         self.keep(done);
@@ -150,6 +158,7 @@ impl Log {
     pub(crate) fn host_collected(&mut self, channel: u8, block: &[u8])
         ensures tnc { Keeps self.old self.new (length block.now ≤ longest_block → sent_by self.new.from_tnc ≡ with_way (sent_by self.old.from_tnc) (collecting true channel (plain block.now ∷ []) (sent_by self.old.from_tnc).way)) }
         ensures host { self.new.from_host ≡ self.old.from_host }
+        ensures gap { GapAfter true self.old.gap self.new.gap }
     {
         let done = self.from_tnc.collect(channel, block);
         self.keep(done);
@@ -159,6 +168,7 @@ impl Log {
     pub(crate) fn tnc_collected(&mut self, channel: u8, block: &[u8])
         ensures host { Keeps self.old self.new (length block.now ≤ longest_block → sent_by self.new.from_host ≡ with_way (sent_by self.old.from_host) (collecting true channel (plain block.now ∷ []) (sent_by self.old.from_host).way)) }
         ensures tnc { self.new.from_tnc ≡ self.old.from_tnc }
+        ensures gap { GapAfter true self.old.gap self.new.gap }
     {
         let done = self.from_host.collect(channel, block);
         self.keep(done);

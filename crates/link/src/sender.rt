@@ -1,10 +1,11 @@
 // What one end has sent: its line, and the way of the blocks that were submitted to it.
-ghost use Rattle.std.specs.Prelude.{◌≡◌, ◌≤◌, ℕ, List, true, [], ◌∷◌, Some, length, OnOk, Decides};
+ghost use Rattle.std.specs.Prelude.{◌≡◌, ◌≤◌, ℕ, List, true, false, [], ◌∷◌, Some, Ok, length, OnOk, Decides};
 ghost use Rattle.frame.specs.Frame.{longest_block};
 ghost use Rattle.store.specs.Meaning.{plain};
 ghost use Rattle.ends.specs.Named.{word_of};
 ghost use Rattle.law.specs.Runs.{submitting, collecting};
 ghost use Rattle.link.specs.Line.{Passes};
+ghost use Rattle.link.specs.Log.{to_keep};
 ghost use Rattle.link.specs.Sent.{nothing_sent, sent_by, Sends, with_sent, with_passed, with_way};
 
 use crate::line::Line;
@@ -45,7 +46,8 @@ impl Sender {
         wire: &[u8],
         went: Option<Went>,
     ) -> Result<(), AllocError>
-        ensures { OnOk result ((written : List (List ℕ)) → Sends direction wire.now written → sent_by self.new ≡ with_sent (sent_by self.old) written (word_of went)) }
+        ensures kept { OnOk result ((written : List (List ℕ)) → Sends direction wire.now written → sent_by self.new ≡ with_sent (sent_by self.old) written (word_of went)) }
+        ensures nothing { to_keep wire.now (word_of went) ≡ false → result ≡ Ok tt }
     {
         if !wire.is_empty() {
             self.line.record(direction, wire)?;

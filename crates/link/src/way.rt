@@ -1,5 +1,5 @@
 // One way: what was submitted at one end, what that end named, and what was collected at the other.
-ghost use Rattle.std.specs.Prelude.{◌≡◌, ◌≤◌, true, [], ◌∷◌, length, OnOk};
+ghost use Rattle.std.specs.Prelude.{◌≡◌, ◌≤◌, true, [], ◌∷◌, None, Ok, length, OnOk};
 ghost use Rattle.frame.specs.Frame.{longest_block};
 ghost use Rattle.store.specs.Meaning.{plain};
 ghost use Rattle.ends.specs.Named.{word_of};
@@ -48,7 +48,8 @@ impl Way {
 
     /// An answer of the sender named a block, or none.
     pub(crate) fn name(&mut self, went: Option<Went>) -> Result<(), AllocError>
-        ensures { OnOk result (way_of self.new ≡ naming (word_of went) (way_of self.old)) }
+        ensures kept { OnOk result (way_of self.new ≡ naming (word_of went) (way_of self.old)) }
+        ensures nothing { went ≡ None → result ≡ Ok tt }
     {
         if let Some(went) = went {
             self.named.push(went)?;

@@ -59,10 +59,11 @@ impl Pair {
         ensures law { Goes (law_call call.entry note) self.old (stores (A.Store.meaning s.old.host_out) (B.Store.meaning s.old.host_in) (C.Store.meaning s.old.tnc_out) (D.Store.meaning s.old.tnc_in)) self.new (stores (A.Store.meaning s.new.host_out) (B.Store.meaning s.new.host_in) (C.Store.meaning s.new.tnc_out) (D.Store.meaning s.new.tnc_in)) }
         ensures note { later result.1 (note_of result.0) ≡ note_after call.entry note self.old (stores (A.Store.meaning s.old.host_out) (B.Store.meaning s.old.host_in) (C.Store.meaning s.old.tnc_out) (D.Store.meaning s.old.tnc_in)) }
     {
+        let Buffers { wire, block: room } = buffers;
         let answer = match call {
-            Call::HostOpen => Answer::Opened(self.host_open(&mut buffers.wire)),
-            Call::HostStep => Answer::Stepped(self.host_step(&s.host_out, &mut buffers.wire)),
-            Call::HostTimer => Answer::Timed(self.host_timer(&mut s.host_out, &mut buffers.wire)),
+            Call::HostOpen => Answer::Opened(self.host_open(wire)),
+            Call::HostStep => Answer::Stepped(self.host_step(&s.host_out, wire)),
+            Call::HostTimer => Answer::Timed(self.host_timer(&mut s.host_out, wire)),
             Call::HostHear { byte, place } => {
                 Answer::HostHeard(self.host_hear(&mut s.host_out, &mut s.host_in, byte, place))
             }
@@ -72,26 +73,18 @@ impl Pair {
             Call::HostSubmitAgain { block } => {
                 return (self.again(&mut s.host_out, note, block), None);
             }
-            Call::HostCollect { channel } => Answer::HostCollected(self.host_collect(
-                &mut s.host_in,
-                channel,
-                &mut buffers.block,
-            )),
-            Call::TncHear { byte, place } => Answer::TncHeard(self.tnc_hear(
-                &mut s.tnc_out,
-                &mut s.tnc_in,
-                byte,
-                place,
-                &mut buffers.wire,
-            )),
+            Call::HostCollect { channel } => {
+                Answer::HostCollected(self.host_collect(&mut s.host_in, channel, room))
+            }
+            Call::TncHear { byte, place } => {
+                Answer::TncHeard(self.tnc_hear(&mut s.tnc_out, &mut s.tnc_in, byte, place, wire))
+            }
             Call::TncSubmit { channel, block } => {
                 Answer::TncSubmitted(self.tnc_submit(&mut s.tnc_out, channel, block))
             }
-            Call::TncCollect { channel } => Answer::TncCollected(self.tnc_collect(
-                &mut s.tnc_in,
-                channel,
-                &mut buffers.block,
-            )),
+            Call::TncCollect { channel } => {
+                Answer::TncCollected(self.tnc_collect(&mut s.tnc_in, channel, room))
+            }
         };
         (answer, note)
     }

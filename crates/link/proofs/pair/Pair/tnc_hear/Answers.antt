@@ -1,5 +1,5 @@
--- The run goes on by a byte heard at the TNC.
-use Rattle.std.proofs.Common.{◌≡◌, cond, None, nat_lt, length, refl, ap, ap₂, ◌∙◌}
+-- The run goes on by a byte heard at the TNC, and what that byte leaves of the log's gap.
+use Rattle.std.proofs.Common.{◌≡◌, ℕ, cond, None, nat_lt, length, take, refl, ap, ap₂, ◌∙◌, subst}
 use Rattle.std.specs.Option.{option_map}
 use Rattle.wire.specs.Wire.{longest_wire}
 use Rattle.reader.specs.Read.{passed, hears}
@@ -12,6 +12,8 @@ use Rattle.law.specs.Runs.{tnc_hear}
 use Rattle.link.specs.declared.pair.Pair.{Pair}
 use Rattle.link.specs.Came.{came, hear_length}
 use Rattle.link.specs.Sent.{sent_by, with_sent}
+use Rattle.link.specs.Log.{GapAfter, to_keep, met_to_keep}
+use Rattle.link.proofs.Gaps.{answer_kept, gap_heard}
 use Rattle.link.proofs.Wrote.{taken}
 use Rattle.link.proofs.TncHeard.{body_passing, tnc_came, tnc_sent, tnc_hear_makes}
 use Rattle.link.proofs.pair.Pair.tnc_hear.Goals as goal
@@ -42,3 +44,20 @@ returns-clause-law g c = λ ho hi.
     ))
     (taken answer_body S.wrote c.args.wire.now c.hear-answer.new.wire c.answered-sent.result.0 left.wire_is sent)
     (c.answered-sent.ensures.named ∙ c.hear-answer.ensures.named)
+
+pub returns-clause-gap : goal.returns-clause-gap
+returns-clause-gap g c =
+    let p = c.args.self.now in
+    let t = tnc_of p.tnc.link in
+    let to = g.O.Store.meaning c.args.out.now in
+    let ti = g.I.Store.meaning c.args.inn.now in
+    let size = length c.args.wire.now in
+    let n = hears (heard_by p.tnc.ear) c.args.byte in
+    let F = sent_by p.log.from_host in
+    let P = body_passing (nat_lt size longest_wire) n in
+    let o = option_map (λ x. x.now) c.passing.result in
+    let is : o ≡ P =
+    c.passing.ensures ∙ ap₂ (λ a e. cond (came a) (passed e) None) c.hear-answer.ensures.answer (ap heard_by c.ear.ensures ∙ c.hear-answer.ensures.ear) ∙ tnc_came t to ti size (heard_by p.tnc.ear) n in
+    let kept = answer_kept c.tnc_heard.new.self.gap c.tnc_did.new.self.gap c.hear-answer.result c.hear-answer.new.wire (word_of c.answered-sent.result.1) c.answered-sent.ensures.named
+    (subst (λ (k : ℕ). GapAfter (to_keep (take k c.hear-answer.new.wire) (word_of c.answered-sent.result.1)) c.tnc_heard.new.self.gap c.tnc_did.new.self.gap) c.answered-sent.ensures.sent c.tnc_did.ensures.gap) in
+    gap_heard F c.args.place o P (met_to_keep c.hear-answer.result) p.log.gap c.tnc_heard.new.self.gap c.tnc_did.new.self.gap is c.tnc_heard.ensures.gap kept

@@ -13,8 +13,8 @@ use Rattle.link.proofs.Senders.{recorded, not_recorded, joined}
 use Rattle.link.proofs.sender.Sender.did.Goals as goal
 use Rattle.link.proofs.sender.Sender.did.Goals.{then-not-is_empty+in_ok-record, else-not-is_empty}
 
-pub returns : goal.returns
-returns c =
+pub returns-clause-kept : goal.returns-clause-kept
+returns-clause-kept c =
     let d = c.args.direction in
     let wire = c.args.wire.now in
     let old = c.args.self.now in
@@ -28,4 +28,4 @@ returns c =
           let none : wire ≡ [] = nil_from_length wire (search rules) in
           (λ written s. ap (λ (x : Sender). bodies x.line) w.self-is ∙ not_recorded d wire old.line none written s, ap (λ (x : Sender). x.line.passed) w.self-is, ap (λ (x : Sender). x.way) w.self-is)
     ] in
-    on_ok_weaker c.name.result (λ named written s. joined mid old c.name.new.self written (word_of c.args.went) (lines.0 written s) lines.1 (named ∙ ap (λ (y : way.Way). naming (word_of c.args.went) (way_of y)) lines.2)) c.name.ensures
+    on_ok_weaker c.name.result (λ named written s. joined mid old c.name.new.self written (word_of c.args.went) (lines.0 written s) lines.1 (named ∙ ap (λ (y : way.Way). naming (word_of c.args.went) (way_of y)) lines.2)) c.name.ensures.kept
