@@ -22,7 +22,7 @@ use Rattle.link.specs.Came.{came}
 use Rattle.link.specs.Sent.{Sent, sent_by, MayPass, with_sent, after_pass}
 use Rattle.link.specs.Log.{Keeps}
 use Rattle.link.specs.Pair.{stores, world_of, Makes}
-use Rattle.link.proofs.Made.{world, world_from, same_world, made, makes}
+use Rattle.link.proofs.Made.{world, world_from, same_world, none, leaves, made, makes}
 
 -- WHICH BODY PASSED, by the answer
 
@@ -115,21 +115,25 @@ module _ (p q : Pair) (byte place : ℕ) (ho hi to ti : store.Meaning) where
       → Keeps p.log q.log (MayPass G place o × (sent_by q.log.from_host ≡ with_sent F [] word) × (sent_by q.log.from_tnc ≡ after_pass G place o))
       → word ≡ S.word
       → Makes k p (stores ho hi to ti) q (stores ho' hi' to ti)
-  host_hear_makes k acts allowed ho' hi' o word is host out inn ear tnc keeps named = makes k p q (stores ho hi to ti) (stores ho' hi' to ti) (λ whole.
+  host_hear_makes k acts allowed ho' hi' o word is host out inn ear tnc keeps named =
+      let m = stores ho hi to ti in
+      let into : stores ho' hi' to ti ≡ stores S.out S.inn to ti = ap (λ x. stores x hi' to ti) out ∙ ap (λ x. stores S.out x to ti) inn in
+      makes k p q m (stores ho' hi' to ti)
+      (leaves k p q m (stores ho' hi' to ti) (world_from S.host n.then (tnc_of p.tnc.link) (heard_by p.tnc.ear) (with_sent F [] S.word) (after_pass G place (body_heard n)) (stores S.out S.inn to ti) [] [] 0)
+      (acts (world p m none) ∙ sym (acts_on (body_heard n) [] [] 0)) host ear (ap (λ t. tnc_of t.link) tnc) (ap (λ t. heard_by t.ear) tnc) into)
+      (λ whole.
       let kept = keeps whole in (
         kept.0,
-        λ s setting l r.
-            let m = stores ho hi to ti in
-            let w = world m s in
+        λ s log setting l r.
+            let w = world p m s in
             let may : MayPass G place (body_heard n) = subst (MayPass G place) is kept.1.0 in
-            let ok = allowed w (λ b e. allowed_by answer_body _ G s.dn place (body_heard n) s.dn_is may b e) in
+            let ok = allowed w (λ b e. allowed_by answer_body _ G s.dn place (body_heard n) log.dn_is may b e) in
             let from_host : sent_by q.log.from_host ≡ with_sent F [] S.word = kept.1.1 ∙ ap (with_sent F []) named in
             let from_tnc : sent_by q.log.from_tnc ≡ after_pass G place (body_heard n) = kept.1.2 ∙ ap (after_pass G place) is in
-            let into : stores ho' hi' to ti ≡ stores S.out S.inn to ti = ap (λ x. stores x hi' to ti) out ∙ ap (λ x. stores S.out x to ti) inn in
             made k p q m (stores ho' hi' to ti) s ok s.up s.dn s.tries
             (same_world q (stores ho' hi' to ti) (stores S.out S.inn to ti) s.up s.dn s.tries S.host n.then (tnc_of p.tnc.link) (heard_by p.tnc.ear) (with_sent F [] S.word) (after_pass G place (body_heard n))
             host ear (ap (λ t. tnc_of t.link) tnc) (ap (λ t. heard_by t.ear) tnc) from_host from_tnc into
             ∙ acts_on (body_heard n) s.up s.dn s.tries ∙ sym (acts w))
-            (ap (λ (x : Sent). x.written) from_host ∙ append-nil F.written ∙ s.up_is)
-            (ap (λ (x : Sent). x.written) from_tnc ∙ same_written G place (body_heard n) ∙ s.dn_is) r,
+            (ap (λ (x : Sent). x.written) from_host ∙ append-nil F.written ∙ log.up_is)
+            (ap (λ (x : Sent). x.written) from_tnc ∙ same_written G place (body_heard n) ∙ log.dn_is) r,
       ))

@@ -7,10 +7,10 @@ use Rattle.law.specs.Runs.{World, Limits, Run, after, act}
 use Rattle.link.specs.declared.call.Call.{Call}
 use Rattle.link.specs.declared.pair.Pair.{Pair}
 use Rattle.link.specs.Pair.{Stores, Shows, Made}
-use Rattle.link.specs.Played.{law_call, note_after, Goes, Played, none, more, no_note, PlayedOn, Plays}
+use Rattle.link.specs.Played.{law_call, note_after, Goes, Called, no_call, one_more, Played, none, more, no_note, PlayedOn, Plays}
 
 module _ (p : Pair) (m : Stores) (note : Option DoubtNote) where
-  pub none_played : Plays p m note [] p m note
+  none_played : Plays p m note [] p m note
   none_played whole = (whole, λ setting l w r s. record { reached = w; run = r; played = none; shows = s })
 
   next : (ks : List Call) (k : Call) (q r : Pair) (n o : Stores) (held : Option DoubtNote) (c : Option law.Call) → law_call k held ≡ c → Goes c q n r o
@@ -34,8 +34,12 @@ module _ (p : Pair) (m : Stores) (note : Option DoubtNote) where
             record { reached = act c on.reached; run = after on.run c made.allowed; played = more ks k c on.played is made; shows = made.shows },
       )
 
-  pub one_more : (calls : List Call) (i : ℕ) (d : Call) (q r : Pair) (n o : Stores) (held : Option DoubtNote) → i < length calls
-      → Plays p m note (take i calls) q n held → Goes (law_call (get_or calls i d) held) q n r o → Plays p m note (take (i + 1) calls) r o (note_after (get_or calls i d) held q n)
-  one_more calls i d q r n o held low before goes =
-      subst (λ (ks : List Call). Plays p m note ks r o (note_after (get_or calls i d) held q n)) (sym (take_more calls i d low))
-      (next (take i calls) (get_or calls i d) q r n o held (law_call (get_or calls i d) held) refl goes before)
+  -- a list of calls plays what the law says
+  pub plays : {ks : List Call} {q : Pair} {n : Stores} {held : Option DoubtNote} → Called p m note ks q n held → Plays p m note ks q n held
+  plays no_call = none_played
+  plays (one_more ks k {q} {o} {n} {i} {held} before goes) = next ks k q o n i held (law_call k held) refl goes (plays before)
+
+  pub called_more : (calls : List Call) (i : ℕ) (d : Call) (q r : Pair) (n o : Stores) (held : Option DoubtNote) → i < length calls
+      → Called p m note (take i calls) q n held → Goes (law_call (get_or calls i d) held) q n r o → Called p m note (take (i + 1) calls) r o (note_after (get_or calls i d) held q n)
+  called_more calls i d q r n o held low before goes =
+      subst (λ (ks : List Call). Called p m note ks r o (note_after (get_or calls i d) held q n)) (sym (take_more calls i d low)) (one_more (take i calls) (get_or calls i d) before goes)

@@ -47,8 +47,8 @@ module _ (k : Call) (p q : Pair) (c : ℕ) where
         let h : Host = host_counts (host_of p.host.link) (submit_counts (host_of p.host.link).submitted out c b) in
         let f = with_way F (submitting (granted to_host) c b F.way) in
         quiet_makes k p q (stores out hi to ti) (stores after hi to ti) h (tnc_of p.tnc.link) f G
-        (λ s. acts (world (stores out hi to ti) s) ∙ ap (λ o. world_from h (heard_by p.host.ear) (tnc_of p.tnc.link) (heard_by p.tnc.ear) f G (stores o hi to ti) s.up s.dn s.tries) (sym into))
-        (λ s. allowed (world (stores out hi to ti) s)) host ear (ap (λ t. tnc_of t.link) tnc) (ap (λ t. t.ear) tnc) keeps refl refl
+        (λ s. acts (world p (stores out hi to ti) s) ∙ ap (λ o. world_from h (heard_by p.host.ear) (tnc_of p.tnc.link) (heard_by p.tnc.ear) f G (stores o hi to ti) s.up s.dn s.tries) (sym into))
+        (λ s. allowed (world p (stores out hi to ti) s)) host ear (ap (λ t. tnc_of t.link) tnc) (ap (λ t. t.ear) tnc) keeps refl refl
 
     abbrev pub to_tnc : Result ℕ Refusal
     to_tnc = submit_answer (tnc_of p.tnc.link).submitted out c b
@@ -63,8 +63,8 @@ module _ (k : Call) (p q : Pair) (c : ℕ) where
         let t : Tnc = tnc_counts (tnc_of p.tnc.link) (submit_counts (tnc_of p.tnc.link).submitted out c b) in
         let g = with_way G (submitting (granted to_tnc) c b G.way) in
         quiet_makes k p q (stores ho hi out ti) (stores ho hi after ti) (host_of p.host.link) t F g
-        (λ s. acts (world (stores ho hi out ti) s) ∙ ap (λ o. world_from (host_of p.host.link) (heard_by p.host.ear) t (heard_by p.tnc.ear) F g (stores ho hi o ti) s.up s.dn s.tries) (sym into))
-        (λ s. allowed (world (stores ho hi out ti) s)) (ap (λ h. host_of h.link) host) (ap (λ h. h.ear) host) tnc ear keeps refl refl
+        (λ s. acts (world p (stores ho hi out ti) s) ∙ ap (λ o. world_from (host_of p.host.link) (heard_by p.host.ear) t (heard_by p.tnc.ear) F g (stores ho hi o ti) s.up s.dn s.tries) (sym into))
+        (λ s. allowed (world p (stores ho hi out ti) s)) (ap (λ h. host_of h.link) host) (ap (λ h. h.ear) host) tnc ear keeps refl refl
 
   module _ (inn after : Meaning) (size : ℕ) where
     abbrev pub shown : Result Block stores.Refusal
@@ -78,8 +78,8 @@ module _ (k : Call) (p q : Pair) (c : ℕ) where
     host_collect_makes ho to ti acts allowed host tnc into keeps =
         let g = with_way G (collecting (granted shown) c (shown_by shown) G.way) in
         quiet_makes k p q (stores ho inn to ti) (stores ho after to ti) (host_of p.host.link) (tnc_of p.tnc.link) F g
-        (λ s. acts (world (stores ho inn to ti) s) ∙ ap (λ o. world_from (host_of p.host.link) (heard_by p.host.ear) (tnc_of p.tnc.link) (heard_by p.tnc.ear) F g (stores ho o to ti) s.up s.dn s.tries) (sym into))
-        (λ s. allowed (world (stores ho inn to ti) s)) (ap (λ h. host_of h.link) host) (ap (λ h. h.ear) host) (ap (λ t. tnc_of t.link) tnc) (ap (λ t. t.ear) tnc) keeps refl refl
+        (λ s. acts (world p (stores ho inn to ti) s) ∙ ap (λ o. world_from (host_of p.host.link) (heard_by p.host.ear) (tnc_of p.tnc.link) (heard_by p.tnc.ear) F g (stores ho o to ti) s.up s.dn s.tries) (sym into))
+        (λ s. allowed (world p (stores ho inn to ti) s)) (ap (λ h. host_of h.link) host) (ap (λ h. h.ear) host) (ap (λ t. tnc_of t.link) tnc) (ap (λ t. t.ear) tnc) keeps refl refl
 
     pub tnc_collect_makes :
         (ho hi to : Meaning) → ((w : World) → act k w ≡ tnc_collects c size w) → ((w : World) → Allowed k w)
@@ -89,5 +89,5 @@ module _ (k : Call) (p q : Pair) (c : ℕ) where
     tnc_collect_makes ho hi to acts allowed host tnc into keeps =
         let f = with_way F (collecting (granted shown) c (shown_by shown) F.way) in
         quiet_makes k p q (stores ho hi to inn) (stores ho hi to after) (host_of p.host.link) (tnc_of p.tnc.link) f G
-        (λ s. acts (world (stores ho hi to inn) s) ∙ ap (λ o. world_from (host_of p.host.link) (heard_by p.host.ear) (tnc_of p.tnc.link) (heard_by p.tnc.ear) f G (stores ho hi to o) s.up s.dn s.tries) (sym into))
-        (λ s. allowed (world (stores ho hi to inn) s)) (ap (λ h. host_of h.link) host) (ap (λ h. h.ear) host) (ap (λ t. tnc_of t.link) tnc) (ap (λ t. t.ear) tnc) keeps refl refl
+        (λ s. acts (world p (stores ho hi to inn) s) ∙ ap (λ o. world_from (host_of p.host.link) (heard_by p.host.ear) (tnc_of p.tnc.link) (heard_by p.tnc.ear) f G (stores ho hi to o) s.up s.dn s.tries) (sym into))
+        (λ s. allowed (world p (stores ho hi to inn) s)) (ap (λ h. host_of h.link) host) (ap (λ h. h.ear) host) (ap (λ t. tnc_of t.link) tnc) (ap (λ t. t.ear) tnc) keeps refl refl

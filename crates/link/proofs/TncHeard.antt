@@ -1,5 +1,5 @@
 -- Hearing a byte at the TNC: which body passed, what was written, and how the run goes on.
-use Rattle.std.proofs.Common.{◌≡◌, ℕ, ◌<◌, ◌≤◌, Bool, true, false, cond, Some, None, Option, Ok, Err, Result, List, ◌++◌, length, nat_lt, sym, refl, ap, ◌∙◌, subst}
+use Rattle.std.proofs.Common.{◌≡◌, ℕ, ◌<◌, ◌≤◌, Bool, true, false, cond, Some, None, Option, Ok, Err, Result, List, [], ◌++◌, length, nat_lt, sym, refl, ap, ◌∙◌, subst}
 use Rattle.std.specs.List.{AllByRecursion}
 use Rattle.frame.specs.declared.form.Direction.TheVariants.{FromTnc}
 use Rattle.wire.specs.Wire.{longest_wire}
@@ -27,7 +27,7 @@ use Rattle.link.specs.Sent.{Sent, sent_by, Sends, MayPass, with_sent, after_pass
 use Rattle.link.specs.Log.{Keeps}
 use Rattle.link.specs.Pair.{stores, world_of, Makes}
 use Rattle.link.proofs.Wrote.{wire_written, length_written, bodies_written, bodies_after, sends}
-use Rattle.link.proofs.Made.{world, world_from, same_world, made, makes, answer_fits}
+use Rattle.link.proofs.Made.{world, world_from, same_world, none, leaves, made, makes, answer_fits}
 use Rattle.link.proofs.Heard.{allowed_by, same_written}
 
 -- by the rule that a frame meets: it passed, and what it wrote is as long as the answer says
@@ -120,24 +120,29 @@ module _ (p q : Pair) (size byte place : ℕ) (ho hi to ti : store.Meaning) wher
       → Keeps p.log q.log (MayPass F place o × ((written : List (List ℕ)) → Sends FromTnc bytes written → sent_by q.log.from_tnc ≡ with_sent G written word) × (sent_by q.log.from_host ≡ after_pass F place o))
       → bytes ≡ wire_written answer_body S.wrote → word ≡ S.word
       → Makes k p (stores ho hi to ti) q (stores ho hi to' ti')
-  tnc_hear_makes k acts allowed to' ti' o word bytes is tnc out inn ear host keeps wrote named = makes k p q (stores ho hi to ti) (stores ho hi to' ti') (λ whole.
+  tnc_hear_makes k acts allowed to' ti' o word bytes is tnc out inn ear host keeps wrote named =
+      let m = stores ho hi to ti in
+      let P = body_passing short n in
+      let into : stores ho hi to' ti' ≡ stores ho hi S.out S.inn = ap (λ x. stores ho hi x ti') out ∙ ap (λ x. stores ho hi S.out x) inn in
+      makes k p q m (stores ho hi to' ti')
+      (leaves k p q m (stores ho hi to' ti')
+      (world_from (host_of p.host.link) (heard_by p.host.ear) S.tnc ear_after (after_pass F place P) (with_sent G [] S.word) (stores ho hi S.out S.inn) [] (with_written [] S.wrote) 0)
+      (acts (world p m none) ∙ sym (acts_on short (body_heard n) [] [] 0 [])) (ap (λ h. host_of h.link) host) (ap (λ h. heard_by h.ear) host) tnc ear into)
+      (λ whole.
       let kept = keeps whole in (
         kept.0,
-        λ s setting l r.
-            let m = stores ho hi to ti in
-            let w = world m s in
-            let P = body_passing short n in
+        λ s log setting l r.
+            let w = world p m s in
             let may : MayPass F place P = subst (MayPass F place) is kept.1.0 in
-            let ok = allowed w (λ b e. allowed_by request_body no_request F s.up place P s.up_is may b e) in
+            let ok = allowed w (λ b e. allowed_by request_body no_request F s.up place P log.up_is may b e) in
             let written = bodies_written answer_body S.wrote in
             let on = acts_on short (body_heard n) s.up s.dn s.tries written ∙ sym (acts w) in
             let all : AllByRecursion FitAnswer (with_written s.dn S.wrote) = subst (λ (v : World). AllByRecursion FitAnswer v.dn) (sym on) (fits (after r k ok)).dn in
             let from_tnc : sent_by q.log.from_tnc ≡ with_sent G written S.word = kept.1.1 written (sends answer_body FromTnc FitAnswer answer_fits s.dn S.wrote all bytes wrote) ∙ ap (with_sent G written) named in
             let from_host : sent_by q.log.from_host ≡ after_pass F place P = kept.1.2 ∙ ap (after_pass F place) is in
-            let into : stores ho hi to' ti' ≡ stores ho hi S.out S.inn = ap (λ x. stores ho hi x ti') out ∙ ap (λ x. stores ho hi S.out x) inn in
             made k p q m (stores ho hi to' ti') s ok s.up (with_written s.dn S.wrote) s.tries
             (same_world q (stores ho hi to' ti') (stores ho hi S.out S.inn) s.up (with_written s.dn S.wrote) s.tries (host_of p.host.link) (heard_by p.host.ear) S.tnc ear_after (after_pass F place P) (with_sent G written S.word)
             (ap (λ h. host_of h.link) host) (ap (λ h. heard_by h.ear) host) tnc ear from_host from_tnc into ∙ on)
-            (ap (λ (x : Sent). x.written) from_host ∙ same_written F place P ∙ s.up_is)
-            (ap (λ (x : Sent). x.written) from_tnc ∙ ap (λ l. l ++ written) s.dn_is ∙ sym (bodies_after answer_body s.dn S.wrote)) r,
+            (ap (λ (x : Sent). x.written) from_host ∙ same_written F place P ∙ log.up_is)
+            (ap (λ (x : Sent). x.written) from_tnc ∙ ap (λ l. l ++ written) log.dn_is ∙ sym (bodies_after answer_body s.dn S.wrote)) r,
       ))

@@ -1,5 +1,5 @@
 -- A pair of ends as a world of the law's runs, and what the law says of each call on it.
-use Rattle.std.specs.Prelude.{◌≡◌, ℕ, ◌≤◌, ◌↔◌, List, map, None}
+use Rattle.std.specs.Prelude.{◌≡◌, ℕ, ◌≤◌, ◌↔◌, List, [], map, None}
 use Rattle.poll.specs.Channel.{last_channel}
 use Rattle.store.specs.Meaning.{Meaning, empty}
 use Rattle.ends.specs.Frames.{Request, Answer, request_body, answer_body}
@@ -64,8 +64,20 @@ pub record Made (k : Call) {setting : ℕ} {l : Limits} {w : World} (r : Run set
   pub delivers : (c : ℕ) → c ≤ last_channel → Delivery (act k w) c
   pub falls : RepeatsNothing r → NotRepeated k w → TakesDown w (act k w) ↔ UsedUp w k
 
--- So it is after every run that reached a world which p and m show. It is said where the log is whole after the call; then it
--- was whole before it.
+-- a call leaves the ends, their readers and the stores as the law's own call does, whatever the log has
+pub record Leaves (k : Call) (p : Pair) (m : Stores) (q : Pair) (n : Stores) : Type 0 where
+  pub host_is : host_of q.host.link ≡ (act k (world_of p m [] [] 0)).host
+  pub host_ear_is : heard_by q.host.ear ≡ (act k (world_of p m [] [] 0)).host_reader
+  pub tnc_is : tnc_of q.tnc.link ≡ (act k (world_of p m [] [] 0)).tnc
+  pub tnc_ear_is : heard_by q.tnc.ear ≡ (act k (world_of p m [] [] 0)).tnc_reader
+  pub host_out_is : n.host_out ≡ (act k (world_of p m [] [] 0)).host_out
+  pub host_in_is : n.host_in ≡ (act k (world_of p m [] [] 0)).host_in
+  pub tnc_out_is : n.tnc_out ≡ (act k (world_of p m [] [] 0)).tnc_out
+  pub tnc_in_is : n.tnc_in ≡ (act k (world_of p m [] [] 0)).tnc_in
+
+-- So it is always, and what the law says of the call holds after every run that reached a world which p and m show, where the
+-- log is whole after the call; then it was whole before it.
 pub record Makes (k : Call) (p : Pair) (m : Stores) (q : Pair) (n : Stores) : Type 0 where
+  pub leaves : Leaves k p m q n
   pub whole : q.log.gap ≡ None → p.log.gap ≡ None
   pub made : q.log.gap ≡ None → (setting : ℕ) (l : Limits) (w : World) (r : Run setting l w) → Shows p m w → Made k r q n

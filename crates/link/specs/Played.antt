@@ -108,6 +108,13 @@ abbrev pub Goes : Option law.Call → Pair → Stores → Pair → Stores → Ty
 Goes None p m q n = (q ≡ p) × (n ≡ m)
 Goes (Some k) p m q n = Makes k p m q n
 
+-- The calls of a list, one after the other, each as one call goes, and with the note that is held: what they leave of the ends
+-- and the stores is said of every list, whatever the log has.
+pub data Called (p : Pair) (m : Stores) (note : Option DoubtNote) : List Call → Pair → Stores → Option DoubtNote → Type 0 where
+  no_call : Called p m note [] p m note
+  one_more : (ks : List Call) (k : Call) {q o : Pair} {n i : Stores} {held : Option DoubtNote}
+      → Called p m note ks q n held → Goes (law_call k held) q n o i → Called p m note (ks ++ k ∷ []) o i (note_after k held q n)
+
 -- The calls of a list, one after the other, after a run r: each as the law says, after the run that the calls before it have made
 -- of r. q and n are what is then left, with the note that is held, and t is the run so far.
 pub data Played (p : Pair) (m : Stores) (note : Option DoubtNote) {setting : ℕ} {l : Limits} {w : World} (r : Run setting l w) : List Call → Pair → Stores → Option DoubtNote → (v : World) → Run setting l v → Type 0 where

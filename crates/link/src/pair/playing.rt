@@ -2,7 +2,7 @@
 ghost use Rattle.std.specs.Prelude.{◌≡◌};
 ghost use Rattle.store.specs.Meaning.{Meaning};
 ghost use Rattle.link.specs.Pair.{stores};
-ghost use Rattle.link.specs.Played.{note_of, later, again_call, again_after, law_call, note_after, Goes, Plays};
+ghost use Rattle.link.specs.Played.{note_of, later, again_call, again_after, law_call, note_after, Goes, Called, Plays};
 
 use super::Pair;
 use crate::call::{Answer, Call, Stores};
@@ -33,6 +33,7 @@ impl Pair {
         calls: &[Call],
         watch: &mut W,
     ) -> Option<DoubtNote>
+        ensures each { Called self.old (stores (A.Store.meaning s.old.host_out) (B.Store.meaning s.old.host_in) (C.Store.meaning s.old.tnc_out) (D.Store.meaning s.old.tnc_in)) note calls.now self.new (stores (A.Store.meaning s.new.host_out) (B.Store.meaning s.new.host_in) (C.Store.meaning s.new.tnc_out) (D.Store.meaning s.new.tnc_in)) result }
         ensures law { Plays self.old (stores (A.Store.meaning s.old.host_out) (B.Store.meaning s.old.host_in) (C.Store.meaning s.old.tnc_out) (D.Store.meaning s.old.tnc_in)) note calls.now self.new (stores (A.Store.meaning s.new.host_out) (B.Store.meaning s.new.host_in) (C.Store.meaning s.new.tnc_out) (D.Store.meaning s.new.tnc_in)) result }
     {
         let mut held = note;

@@ -23,7 +23,7 @@ returns-clause-law c = λ m.
     let sent = c.unwrap_or-sent.ensures ∙ ap (λ r. result_unwrap_or r 0) c.open-answer.ensures.answer ∙ open_sent size h m.host_out m.host_in h.state in
     let q : Pair = record { host = c.open-answer.new.self; tnc = c.args.self.now.tnc; log = c.host_did.new.self } in
     host_makes (host_open size) c.args.self.now q m m S (λ k. cond (nat_lt size longest_wire) k (tries_from (open_rule h.state) k)) _ silent
-    (λ s. cond_host (nat_lt size longest_wire) (world m s) (open_step h m.host_out m.host_in) (tries_from (open_rule h.state) s.tries)) (λ s. tt)
+    (λ s. cond_host (nat_lt size longest_wire) (world c.args.self.now m s) (open_step h m.host_out m.host_in) (tries_from (open_rule h.state) s.tries)) (λ s. tt)
     (ap₂ (λ a b. stores a b m.tnc_out m.tnc_in) left.out_is left.inn_is)
     left.host_is left.ear_is refl c.host_did.ensures.tnc c.host_did.ensures.host
     (taken request_body S.wrote c.args.wire.now _ _ left.wire_is sent) (open_word size h m.host_out m.host_in h.state)

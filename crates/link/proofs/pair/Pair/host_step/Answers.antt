@@ -25,7 +25,7 @@ returns-clause-law g c = λ hi to ti.
     let q : Pair = record { host = c.step-answer.new.self; tnc = c.args.self.now.tnc; log = c.host_did.new.self } in
     let m = stores out hi to ti in
     host_makes (host_step size) c.args.self.now q m m S (λ k. cond (nat_lt size longest_wire) k (tries_from (step_rule h.state) k)) _ silent
-    (λ s. cond_host (nat_lt size longest_wire) (world m s) (step_step h out hi) (tries_from (step_rule h.state) s.tries)) (λ s. tt)
+    (λ s. cond_host (nat_lt size longest_wire) (world c.args.self.now m s) (step_step h out hi) (tries_from (step_rule h.state) s.tries)) (λ s. tt)
     (ap₂ (λ a b. stores a b to ti) left.out_is left.inn_is)
     left.host_is left.ear_is refl c.host_did.ensures.tnc c.host_did.ensures.host
     (taken request_body S.wrote c.args.wire.now _ _ left.wire_is sent) (step_word size h out hi h.state)

@@ -23,7 +23,7 @@ returns-clause-law g c = λ hi to ti.
     let sent = c.timed-sent.ensures.sent ∙ ap timer_length c.timer-answer.ensures.answer ∙ timer_sent size h out hi in
     let q : Pair = record { host = c.timer-answer.new.self; tnc = c.args.self.now.tnc; log = c.host_did.new.self } in
     host_makes (host_timer size) c.args.self.now q (stores out hi to ti) (stores (g.O.Store.meaning c.timer-answer.new.out) hi to ti) S (λ k. cond (nat_lt size longest_wire) k (tries_more (timer_rule h.setting h.state) k)) _ _
-    (λ s. cond_host (nat_lt size longest_wire) (world (stores out hi to ti) s) (timer_step h out hi) (tries_more (timer_rule h.setting h.state) s.tries)) (λ s. tt)
+    (λ s. cond_host (nat_lt size longest_wire) (world c.args.self.now (stores out hi to ti) s) (timer_step h out hi) (tries_more (timer_rule h.setting h.state) s.tries)) (λ s. tt)
     (ap₂ (λ a b. stores a b to ti) left.out_is left.inn_is)
     left.host_is left.ear_is refl c.host_did.ensures.tnc c.host_did.ensures.host
     (taken request_body S.wrote c.args.wire.now _ _ left.wire_is sent) (c.timed-sent.ensures.named ∙ c.timer-answer.ensures.named hi)
