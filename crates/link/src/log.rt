@@ -18,12 +18,12 @@ use std::alloc::{AllocError, Global};
 /// Why a log is not whole.
 #[derive(Clone, Copy, PartialEq, Eq, Debug)]
 pub enum Gap {
-    /// A frame passed that the other end had not written, or one from before the last that passed.
+    /// A frame passed that is not the one written at the place given for it, or whose place lies before that of the last.
     LineRule,
     NoMemory,
 }
 
-/// What both ends have sent. From its first gap on it promises nothing.
+/// What both ends have sent. From its first gap on nothing is said of it.
 #[derive(Drop)]
 pub struct Log {
     from_host: Sender,
