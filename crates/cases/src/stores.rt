@@ -11,22 +11,95 @@ use strip::Strip;
 
 const LONG: usize = 257;
 
+/// A call of a store and what it must answer: the refusal's number, or none; a block; a number of blocks.
+enum Try {
+    Put(u8, &'static [u8], Option<u8>),
+    Drop(u8, Option<u8>),
+    First(u8, &'static [u8]),
+    Count(u8, usize),
+    Total(usize),
+}
+
+// On an empty store each call refuses what it must, the first reason first, and nothing comes to wait.
+static REFUSED_IN_ORDER: [Try; 8] = [
+    Try::Put(64, &[1], Some(10)),
+    Try::Put(255, &[], Some(10)),
+    Try::Put(64, &[7; LONG], Some(10)),
+    Try::Put(63, &[], Some(11)),
+    Try::Put(0, &[7; LONG], Some(11)),
+    Try::Drop(64, Some(10)),
+    Try::Drop(63, Some(13)),
+    Try::Total(0),
+];
+
+// Blocks of every length at the limits, of AA and of 00, come out as they went in; the highest channel goes.
+static BYTES: [Try; 9] = [
+    Try::Put(63, &[0xaa; BLOCK], None),
+    Try::Put(0, &[0], None),
+    Try::First(63, &[0xaa; BLOCK]),
+    Try::First(0, &[0]),
+    Try::Drop(63, None),
+    Try::Drop(63, Some(13)),
+    Try::First(0, &[0]),
+    Try::Drop(0, None),
+    Try::Total(0),
+];
+
+// Two channels in turn: each gives its own blocks in order, and a drop on one leaves the other.
+static CHANNELS_APART: [Try; 14] = [
+    Try::Put(5, &[1, 2], None),
+    Try::Put(6, &[3], None),
+    Try::Put(5, &[4], None),
+    Try::Count(5, 2),
+    Try::Count(6, 1),
+    Try::Count(7, 0),
+    Try::Count(64, 0),
+    Try::Drop(5, None),
+    Try::First(5, &[4]),
+    Try::First(6, &[3]),
+    Try::Drop(6, None),
+    Try::First(5, &[4]),
+    Try::Drop(5, None),
+    Try::Total(0),
+];
+
+// A full store still refuses 10 and 11 first, and a drop makes room for one.
+static FULL: [Try; 8] = [
+    Try::Put(33, &[1], Some(12)),
+    Try::Put(64, &[1], Some(10)),
+    Try::Put(33, &[], Some(11)),
+    Try::First(33, &[0]),
+    Try::Drop(33, None),
+    Try::Put(1, &[1], None),
+    Try::Put(1, &[1], Some(12)),
+    Try::Count(1, 1),
+];
+
 /// The number of the refusal; none where the call is granted.
 pub(crate) fn refused<T: Drop>(answer: Result<T, Refusal>) -> Option<u8> {
     answer.err().map(|refusal| refusal.number())
 }
 
-// On an empty store each call refuses what it must, the first reason first, and nothing comes to wait.
-fn refuses_in_order<S: Store>(rt: &impl Abort, store: &mut S) {
-    let long = [7; LONG];
-    assert_eq!(rt; refused(store.put(64, &[1])), Some(10));
-    assert_eq!(rt; refused(store.put(255, &[])), Some(10));
-    assert_eq!(rt; refused(store.put(64, &long)), Some(10));
-    assert_eq!(rt; refused(store.put(63, &[])), Some(11));
-    assert_eq!(rt; refused(store.put(0, &long)), Some(11));
-    assert_eq!(rt; refused(store.drop_first(64)), Some(10));
-    assert_eq!(rt; refused(store.drop_first(63)), Some(13));
-    assert_eq!(rt; store.total(), 0);
+fn goes<S: Store>(rt: &impl Abort, store: &mut S, one: &Try) -> Result<(), Fail> {
+    match one {
+        Try::Put(channel, block, refusal) => {
+            assert_eq!(rt; refused(store.put(*channel, *block)), *refusal);
+        }
+        Try::Drop(channel, refusal) => {
+            assert_eq!(rt; refused(store.drop_first(*channel)), *refusal);
+        }
+        Try::First(channel, block) => first_is(rt, store, *channel, *block)?,
+        Try::Count(channel, count) => assert_eq!(rt; store.count(*channel), *count),
+        Try::Total(total) => assert_eq!(rt; store.total(), *total),
+    }
+    Ok(())
+}
+
+fn all_go<S: Store>(rt: &impl Abort, store: &mut S, tries: &[Try]) -> Result<(), Fail> {
+    for one in tries {
+        goes(rt, store, one)?;
+    }
+    Ok(())
 }
 
 fn copies_refused<S: Store>(rt: &impl Abort, store: &S) {
@@ -50,57 +123,15 @@ fn first_is<S: Store>(rt: &impl Abort, store: &S, channel: u8, bytes: &[u8]) -> 
     Ok(())
 }
 
-// Blocks of every length at the limits, of AA and of 00, come out as they went in; the highest channel goes.
-fn keeps_bytes<S: Store>(rt: &impl Abort, store: &mut S) -> Result<(), Fail> {
-    let marks = [0xaa; BLOCK];
-    let zeros = [0; 1];
-    assert_eq!(rt; refused(store.put(63, &marks)), None);
-    assert_eq!(rt; refused(store.put(0, &zeros)), None);
-    first_is(rt, store, 63, &marks)?;
-    first_is(rt, store, 0, &zeros)?;
-    assert_eq!(rt; refused(store.drop_first(63)), None);
-    assert_eq!(rt; refused(store.drop_first(63)), Some(13));
-    first_is(rt, store, 0, &zeros)?;
-    assert_eq!(rt; refused(store.drop_first(0)), None);
-    assert_eq!(rt; store.total(), 0);
-    Ok(())
-}
-
-// Two channels in turn: each gives its own blocks in order, and a drop on one leaves the other.
-fn keeps_channels_apart<S: Store>(rt: &impl Abort, store: &mut S) -> Result<(), Fail> {
-    assert_eq!(rt; refused(store.put(5, &[1, 2])), None);
-    assert_eq!(rt; refused(store.put(6, &[3])), None);
-    assert_eq!(rt; refused(store.put(5, &[4])), None);
-    assert_eq!(rt; store.count(5), 2);
-    assert_eq!(rt; store.count(6), 1);
-    assert_eq!(rt; store.count(7), 0);
-    assert_eq!(rt; store.count(64), 0);
-    assert_eq!(rt; refused(store.drop_first(5)), None);
-    first_is(rt, store, 5, &[4])?;
-    first_is(rt, store, 6, &[3])?;
-    assert_eq!(rt; refused(store.drop_first(6)), None);
-    first_is(rt, store, 5, &[4])?;
-    assert_eq!(rt; refused(store.drop_first(5)), None);
-    assert_eq!(rt; store.total(), 0);
-    Ok(())
-}
-
-// Full at the limit and not before; a full store still refuses 10 and 11 first, and a drop makes room for one.
+// Full at the limit and not before.
 fn fills<S: Store>(rt: &impl Abort, store: &mut S, limit: usize) -> Result<(), Fail> {
     assert_eq!(rt; store.limit(), limit);
     for i in 0..limit {
         assert_eq!(rt; store.total(), i);
         assert_eq!(rt; refused(store.put(33, &[(i % 256) as u8])), None);
     }
-    assert_eq!(rt; refused(store.put(33, &[1])), Some(12));
-    assert_eq!(rt; refused(store.put(64, &[1])), Some(10));
-    assert_eq!(rt; refused(store.put(33, &[])), Some(11));
     assert_eq!(rt; store.total(), limit);
-    first_is(rt, store, 33, &[0])?;
-    assert_eq!(rt; refused(store.drop_first(33)), None);
-    assert_eq!(rt; refused(store.put(1, &[1])), None);
-    assert_eq!(rt; refused(store.put(1, &[1])), Some(12));
-    assert_eq!(rt; store.count(1), 1);
+    all_go(rt, store, &FULL)?;
     empties(rt, store, limit)
 }
 
@@ -132,10 +163,10 @@ fn wears<S: Store>(rt: &impl Abort, store: &mut S) -> Result<(), Fail> {
 }
 
 fn exercise<S: Store>(rt: &impl Abort, store: &mut S, limit: usize) -> Result<(), Fail> {
-    refuses_in_order(rt, store);
+    all_go(rt, store, &REFUSED_IN_ORDER)?;
     copies_refused(rt, store);
-    keeps_bytes(rt, store)?;
-    keeps_channels_apart(rt, store)?;
+    all_go(rt, store, &BYTES)?;
+    all_go(rt, store, &CHANNELS_APART)?;
     wears(rt, store)?;
     fills(rt, store, limit)
 }
