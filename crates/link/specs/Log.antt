@@ -25,16 +25,12 @@ pub record GapHeard (May : Type 0) (keeps : Bool) (old new : Option Gap) : Type 
   pub may : May → GapAfter keeps old new
   pub broken : (May → ⊥) → GapAfter keeps (with_gap old LineRule) new
 
--- there is something to keep of bytes written and a block named, and of a granted call
+-- there is something to keep of bytes written and a block named, and of a byte that met a rule
 abbrev pub to_keep : List ℕ → Word → Bool
 to_keep [] silent = false
 to_keep [] (confirms c n) = true
 to_keep [] (doubts c n) = true
 to_keep (b ∷ bs) w = true
-
-abbrev pub granted_to_keep : {T : Type 0} {E : Type 0} → Result T E → Bool
-granted_to_keep (Ok x) = true
-granted_to_keep (Err e) = false
 
 abbrev pub met_to_keep : {T : Type 0} → Result (Option T) Refusal → Bool
 met_to_keep (Ok None) = false

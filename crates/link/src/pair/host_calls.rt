@@ -1,5 +1,5 @@
 // The host's calls on a pair. Each answers as the host does, and the law holds after it.
-ghost use Rattle.std.specs.Prelude.{◌≡◌, [], length};
+ghost use Rattle.std.specs.Prelude.{◌≡◌, [], length, is_ok};
 ghost use Rattle.store.specs.Meaning.{Meaning, plain};
 ghost use Rattle.store.specs.Rules.{copy_source, written_over};
 ghost use Rattle.reader.specs.Read.{hears};
@@ -13,7 +13,7 @@ ghost use Rattle.host.specs.Left.{Left, Stands};
 ghost use Rattle.host.specs.Answers.{open_answer, step_answer, timer_answer, again_answer, byte_word};
 ghost use Rattle.host.specs.Hear.{hear_call, hear_answer};
 ghost use Rattle.link.specs.Sent.{sent_by, MayPass};
-ghost use Rattle.link.specs.Log.{GapAfter, GapHeard, to_keep, granted_to_keep};
+ghost use Rattle.link.specs.Log.{GapAfter, GapHeard, to_keep};
 ghost use Rattle.link.specs.Pair.{Stores, stores, Makes};
 
 use super::Pair;
@@ -29,7 +29,7 @@ impl Pair {
         ensures answer { result ≡ open_answer (host_of self.old.host.link) (length wire.old) }
         ensures after { (out inn : Meaning) → Left (open_call (length wire.old) (host_of self.old.host.link) out inn) self.old.host self.new.host out inn wire.old wire.new }
         ensures tnc { self.new.tnc ≡ self.old.tnc }
-        ensures gap { GapAfter (granted_to_keep result) self.old.log.gap self.new.log.gap }
+        ensures gap { GapAfter (is_ok result) self.old.log.gap self.new.log.gap }
         ensures law { (m : Stores) → Makes (host_open (length wire.old)) self.old m self.new m }
     {
         let answer = self.host.open(wire);
@@ -43,7 +43,7 @@ impl Pair {
         ensures answer { result ≡ step_answer (host_of self.old.host.link) (O.Store.meaning out.now) (length wire.old) }
         ensures after { (inn : Meaning) → Left (step_call (length wire.old) (host_of self.old.host.link) (O.Store.meaning out.now) inn) self.old.host self.new.host (O.Store.meaning out.now) inn wire.old wire.new }
         ensures tnc { self.new.tnc ≡ self.old.tnc }
-        ensures gap { GapAfter (granted_to_keep result) self.old.log.gap self.new.log.gap }
+        ensures gap { GapAfter (is_ok result) self.old.log.gap self.new.log.gap }
         ensures law { (hi to ti : Meaning) → Makes (host_step (length wire.old)) self.old (stores (O.Store.meaning out.now) hi to ti) self.new (stores (O.Store.meaning out.now) hi to ti) }
     {
         let answer = self.host.step(out, wire);
@@ -57,7 +57,7 @@ impl Pair {
         ensures answer { result ≡ timer_answer (host_of self.old.host.link) (length wire.old) }
         ensures after { (inn : Meaning) → Left (timer_call (length wire.old) (host_of self.old.host.link) (O.Store.meaning out.old) inn) self.old.host self.new.host (O.Store.meaning out.new) inn wire.old wire.new }
         ensures tnc { self.new.tnc ≡ self.old.tnc }
-        ensures gap { GapAfter (granted_to_keep result) self.old.log.gap self.new.log.gap }
+        ensures gap { GapAfter (is_ok result) self.old.log.gap self.new.log.gap }
         ensures law { (hi to ti : Meaning) → Makes (host_timer (length wire.old)) self.old (stores (O.Store.meaning out.old) hi to ti) self.new (stores (O.Store.meaning out.new) hi to ti) }
     {
         let answer = self.host.timer(out, wire);
@@ -100,7 +100,7 @@ impl Pair {
         ensures ear { self.new.host.ear ≡ self.old.host.ear }
         ensures out { O.Store.meaning out.new ≡ submit_store (host_of self.old.host.link).submitted (O.Store.meaning out.old) channel (plain block.now) }
         ensures tnc { self.new.tnc ≡ self.old.tnc }
-        ensures gap { GapAfter (granted_to_keep result) self.old.log.gap self.new.log.gap }
+        ensures gap { GapAfter (is_ok result) self.old.log.gap self.new.log.gap }
         ensures law { (hi to ti : Meaning) → Makes (host_submit channel (plain block.now)) self.old (stores (O.Store.meaning out.old) hi to ti) self.new (stores (O.Store.meaning out.new) hi to ti) }
     {
         let answer = self.host.submit(out, channel, block);
@@ -122,7 +122,7 @@ impl Pair {
         ensures ear { self.new.host.ear ≡ self.old.host.ear }
         ensures out { O.Store.meaning out.new ≡ submit_store (host_of self.old.host.link).submitted (O.Store.meaning out.old) note.channel (plain block.now) }
         ensures tnc { self.new.tnc ≡ self.old.tnc }
-        ensures gap { GapAfter (granted_to_keep result) self.old.log.gap self.new.log.gap }
+        ensures gap { GapAfter (is_ok result) self.old.log.gap self.new.log.gap }
         ensures law { (hi to ti : Meaning) → Makes (host_submit_again note.channel note.number (plain block.now)) self.old (stores (O.Store.meaning out.old) hi to ti) self.new (stores (O.Store.meaning out.new) hi to ti) }
     {
         let channel = note.channel();
@@ -144,7 +144,7 @@ impl Pair {
         ensures buffer { buffer.new ≡ written_over (copy_source (I.Store.meaning inn.old) channel (length buffer.old)) buffer.old }
         ensures inn { I.Store.meaning inn.new ≡ collect_store (I.Store.meaning inn.old) channel (length buffer.old) }
         ensures ends { (self.new.host ≡ self.old.host) × (self.new.tnc ≡ self.old.tnc) }
-        ensures gap { GapAfter (granted_to_keep result) self.old.log.gap self.new.log.gap }
+        ensures gap { GapAfter (is_ok result) self.old.log.gap self.new.log.gap }
         ensures law { (ho to ti : Meaning) → Makes (host_collect channel (length buffer.old)) self.old (stores ho (I.Store.meaning inn.old) to ti) self.new (stores ho (I.Store.meaning inn.new) to ti) }
     {
         let answer = self.host.collect(inn, channel, buffer);

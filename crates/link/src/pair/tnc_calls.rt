@@ -1,5 +1,5 @@
 // The TNC's calls on a pair. Each answers as the TNC does, and the law holds after it.
-ghost use Rattle.std.specs.Prelude.{◌≡◌, length, cond, nat_lt, None};
+ghost use Rattle.std.specs.Prelude.{◌≡◌, length, cond, nat_lt, None, is_ok};
 ghost use Rattle.wire.specs.Wire.{longest_wire};
 ghost use Rattle.store.specs.Meaning.{Meaning, plain};
 ghost use Rattle.store.specs.Rules.{copy_source, written_over};
@@ -13,7 +13,7 @@ ghost use Rattle.tnc.specs.Model.{tnc_of};
 ghost use Rattle.tnc.specs.Left.{Left};
 ghost use Rattle.tnc.specs.Hear.{hear_call, hear_answer};
 ghost use Rattle.link.specs.Sent.{sent_by, MayPass};
-ghost use Rattle.link.specs.Log.{GapAfter, GapHeard, granted_to_keep, met_to_keep};
+ghost use Rattle.link.specs.Log.{GapAfter, GapHeard, met_to_keep};
 ghost use Rattle.link.specs.Pair.{stores, Makes};
 
 use super::Pair;
@@ -58,7 +58,7 @@ impl Pair {
         ensures ear { self.new.tnc.ear ≡ self.old.tnc.ear }
         ensures out { O.Store.meaning out.new ≡ submit_store (tnc_of self.old.tnc.link).submitted (O.Store.meaning out.old) channel (plain block.now) }
         ensures host { self.new.host ≡ self.old.host }
-        ensures gap { GapAfter (granted_to_keep result) self.old.log.gap self.new.log.gap }
+        ensures gap { GapAfter (is_ok result) self.old.log.gap self.new.log.gap }
         ensures law { (ho hi ti : Meaning) → Makes (tnc_submit channel (plain block.now)) self.old (stores ho hi (O.Store.meaning out.old) ti) self.new (stores ho hi (O.Store.meaning out.new) ti) }
     {
         let answer = self.tnc.submit(out, channel, block);
@@ -79,7 +79,7 @@ impl Pair {
         ensures buffer { buffer.new ≡ written_over (copy_source (I.Store.meaning inn.old) channel (length buffer.old)) buffer.old }
         ensures inn { I.Store.meaning inn.new ≡ collect_store (I.Store.meaning inn.old) channel (length buffer.old) }
         ensures ends { (self.new.host ≡ self.old.host) × (self.new.tnc ≡ self.old.tnc) }
-        ensures gap { GapAfter (granted_to_keep result) self.old.log.gap self.new.log.gap }
+        ensures gap { GapAfter (is_ok result) self.old.log.gap self.new.log.gap }
         ensures law { (ho hi to : Meaning) → Makes (tnc_collect channel (length buffer.old)) self.old (stores ho hi to (I.Store.meaning inn.old)) self.new (stores ho hi to (I.Store.meaning inn.new)) }
     {
         let answer = self.tnc.collect(inn, channel, buffer);
