@@ -5,3 +5,6 @@ mod Lists
 mod InSequence
 mod Confirming
 mod Hearing
+mod Lengths
+mod Acts
+mod Laws

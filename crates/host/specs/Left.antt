@@ -14,6 +14,13 @@ pub record Left (s : HostStep) (host host_after : kept.Host) (out inn : Meaning)
   pub inn_is : inn ≡ s.inn
   pub wire_is : after ≡ request_wire s.wrote before
 
+-- the same of the link alone
+pub record Leaves (s : HostStep) (host : Host) (out inn : Meaning) (before after : List ℕ) : Type 0 where
+  pub host_is : host ≡ s.host
+  pub out_is : out ≡ s.out
+  pub inn_is : inn ≡ s.inn
+  pub wire_is : after ≡ request_wire s.wrote before
+
 -- what a call leaves that writes nothing
 pub record Stands (s : HostStep) (host : Host) (out inn : Meaning) : Type 0 where
   pub host_is : host ≡ s.host

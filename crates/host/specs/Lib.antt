@@ -7,3 +7,4 @@ pub mod Met
 pub mod Left
 pub mod Answers
 pub mod Hear
+pub mod Side

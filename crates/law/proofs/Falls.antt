@@ -9,6 +9,7 @@ use Rattle.ends.specs.Host.{State, fresh, opening, idle, on_its_way, down, in_st
 use Rattle.ends.specs.Tnc.{list_for}
 use Rattle.law.specs.Runs.{World, Limits, Call, host_open, host_step, host_timer, host_hear, host_submit, host_submit_again, host_collect, tnc_hear, tnc_submit, tnc_collect, host_passes, tnc_passes, with_readers, host_hears, tnc_hears, opens, steps, times, act, request_at, answer_at, Allowed, NotRepeated, Run, start, after, RepeatsNothing}
 use Rattle.law.specs.Law.{TakesDown, Unanswered, UsedUp}
+use Rattle.law.proofs.Setting.{setting_is}
 use Rattle.law.proofs.Steps.{host_heard, tnc_heard, at}
 use Rattle.law.proofs.Timer.{Counted, counted_begin, counted_open, counted_step, counted_timer, repeats_opening, repeats_on_its_way, Stands, counted_hear, counted_tnc}
 
@@ -123,12 +124,12 @@ buffer_up : (b : Bool) (w v : World) → (v.host.state ≡ down → w.host.state
 buffer_up true w v up h = h
 buffer_up false w v up h = up h
 
-falls_used_up : (w : World) (c : Call) → AnswersRead w → Allowed c w → NotRepeated c w → Counted w → TakesDown w (act c w) → UsedUp w c
+falls_used_up : (w : World) (c : Call) → AnswersRead w → Allowed c w → NotRepeated c w → Counted w → TakesDown w (act c w) → UsedUp w.host.setting w c
 falls_used_up w (host_open size) ra ok once k d = absurd (d.was_up (buffer_up (ltb size longest_wire) w (opens w) (open_up w w.host.state) d.is_down))
 falls_used_up w (host_step size) ra ok once k d = absurd (d.was_up (buffer_up (ltb size longest_wire) w (steps w) (step_up w w.host.state) d.is_down))
 falls_used_up w (host_timer size) ra ok once k d = go (ltb size longest_wire) refl d.is_down
   where
-    go : (b : Bool) → ltb size longest_wire ≡ b → (cond b w (times w)).host.state ≡ down → UsedUp w (host_timer size)
+    go : (b : Bool) → ltb size longest_wire ≡ b → (cond b w (times w)).host.state ≡ down → UsedUp w.host.setting w (host_timer size)
     go true e h = absurd (d.was_up h)
     go false e h = let f = timer_falls w w.host.state k d.was_up h in record { size = size; is_timer = refl; fits = e; unanswered = f.0; had = f.1 }
 falls_used_up w (host_hear byte i) ra ok once k d = absurd (d.was_up ((counted_host_byte w byte i ra ok once k).up d.is_down))
@@ -143,7 +144,7 @@ falls_used_up w (tnc_hear size byte i) ra ok once k d = absurd (d.was_up (buffer
 falls_used_up w (tnc_submit c b) ra ok once k d = absurd (d.was_up d.is_down)
 falls_used_up w (tnc_collect c size) ra ok once k d = absurd (d.was_up d.is_down)
 
-used_up_takes : (w : World) (c : Call) → Counted w → UsedUp w c → TakesDown w (act c w)
+used_up_takes : (w : World) (c : Call) → Counted w → UsedUp w.host.setting w c → TakesDown w (act c w)
 used_up_takes w c k u = rw (u.is_timer, u.fits) (used_up_falls w w.host.state k u.unanswered u.had)
 
 -- EVERY RUN
@@ -157,5 +158,6 @@ module _
     counted {setting} {l} start n = counted_begin setting l
     counted {setting} {l} (after {w = w} r c ok) n = counted_act good w c (reads_answer setting l w r) (reads_request setting l w r) ok n.1 (counted r n.0)
 
-    pub timer_clause : (setting : ℕ) (l : Limits) (w : World) (r : Run setting l w) → RepeatsNothing r → (c : Call) → Allowed c w → NotRepeated c w → TakesDown w (act c w) ↔ UsedUp w c
-    timer_clause setting l w r n c ok once = (falls_used_up w c (reads_answer setting l w r) ok once (counted r n), used_up_takes w c (counted r n))
+    pub timer_clause : (setting : ℕ) (l : Limits) (w : World) (r : Run setting l w) → RepeatsNothing r → (c : Call) → Allowed c w → NotRepeated c w → TakesDown w (act c w) ↔ UsedUp setting w c
+    timer_clause setting l w r n c ok once =
+        subst (λ (s : ℕ). TakesDown w (act c w) ↔ UsedUp s w c) (setting_is r) (falls_used_up w c (reads_answer setting l w r) ok once (counted r n), used_up_takes w c (counted r n))

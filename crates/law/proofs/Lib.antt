@@ -17,5 +17,11 @@ mod Tally
 mod Track
 mod Both
 mod Timer
+mod Setting
 mod Falls
 pub mod Law
+pub mod Wrote
+pub mod Handed
+pub mod Sides
+pub mod Plain
+pub mod Witness

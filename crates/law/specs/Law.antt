@@ -87,13 +87,13 @@ Unanswered idle = ⊥
 Unanswered (on_its_way q r) = Unit {0}
 Unanswered down = ⊥
 
--- a granted timer, and the frame that is unanswered has had all its repeats
-pub record UsedUp (w : World) (c : Call) : Type 0 where
+-- a granted timer, and the frame that is unanswered has had all its repeats: as many as the run is set to
+pub record UsedUp (setting : ℕ) (w : World) (c : Call) : Type 0 where
   pub size : ℕ
   pub is_timer : c ≡ host_timer size
   pub fits : nat_lt size longest_wire ≡ false
   pub unanswered : Unanswered w.host.state
-  pub had : w.tries ≡ w.host.setting
+  pub had : w.tries ≡ setting
 
 -- THE LAW, of every run that begins with new ends and with nothing in the stores, with any setting and limits: the worlds
 -- that a run passes through are reached by runs too, so it holds after each call
@@ -101,4 +101,4 @@ pub record UsedUp (w : World) (c : Call) : Type 0 where
 pub record DeliveryLaw : Type 0 where
   pub delivers : (setting : ℕ) (l : Limits) (w : World) → Run setting l w → (c : ℕ) → c ≤ last_channel → Delivery w c
   pub falls : (setting : ℕ) (l : Limits) (w : World) (r : Run setting l w) → RepeatsNothing r → (c : Call) → Allowed c w → NotRepeated c w
-      → TakesDown w (act c w) ↔ UsedUp w c
+      → TakesDown w (act c w) ↔ UsedUp setting w c

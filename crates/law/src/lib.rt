@@ -2,8 +2,11 @@
 #![tactic(auto)]
 
 ghost use Rattle.law.specs.Law.{DeliveryLaw};
+ghost use Rattle.law.specs.Plain.{LawInWords, Witness};
 
 /// The law itself, of every list of calls. The calls of both ends follow the rules that its runs are made of.
 pub fn delivery_law_stands()
-    ensures { DeliveryLaw }
+    ensures law { DeliveryLaw }
+    ensures words { LawInWords }
+    ensures witness { Witness }
 {}

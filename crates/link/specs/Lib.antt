@@ -1,8 +1,3 @@
--- The definitions that the contracts on both ends together cite.
-pub mod Line
-pub mod Way
-pub mod Sent
-pub mod Log
-pub mod Came
-pub mod Pair
+-- The definitions that the contract of a played list cites.
+pub mod Notes
 pub mod Played

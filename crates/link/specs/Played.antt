@@ -1,138 +1,195 @@
--- Lists of calls that were played on a pair.
-use Rattle.std.specs.Prelude.{◌≡◌, ℕ, List, [], ◌∷◌, ◌++◌, Some, None, Ok, Err, Option, Result}
-use Rattle.frame.specs.Frame.{longest_block}
+-- Lists of calls that were played on both ends: what each did, and how runs go on by them.
+use Rattle.std.specs.Prelude.{◌≡◌, ℕ, List, [], ◌∷◌, map, length, take, cond, nat_lt, is_ok, Some, None, Option, MatchOption}
+use Rattle.std.specs.Result.{result_unwrap_or}
 use Rattle.wire.specs.Wire.{longest_wire}
-use Rattle.store.specs.Meaning.{plain}
-use Rattle.law.specs.Runs as law
-use Rattle.law.specs.Runs.{World, Limits, Run, after, act, host_open, host_step, host_timer, host_hear, host_submit, host_submit_again, host_collect, tnc_hear, tnc_submit, tnc_collect}
 use Rattle.reader.specs.Read.{hears}
-use Rattle.ends.specs.declared.refusal.Refusal.{Refusal}
-use Rattle.ends.specs.Blocks.{submit_answer}
-use Rattle.ends.specs.Ear.{heard_by}
+use Rattle.store.specs.Meaning.{Meaning, plain}
+use Rattle.store.specs.Rules.{copy_source, written_over}
+use Rattle.ends.specs.Blocks.{submit_answer, submit_counts, submit_store, collect_answer, collect_store}
+use Rattle.ends.specs.Host.{HostStep, host_counts, open_call, step_call, timer_call}
+use Rattle.ends.specs.Tnc.{TncStep, tnc_counts}
+use Rattle.ends.specs.Sent.{request_wire, answer_wire}
+use Rattle.law.specs.Runs as law
+use Rattle.law.specs.Runs.{Way, World, Limits, Run, after, act, Allowed, naming, submitting, collecting, host_open, host_step, host_timer, host_hear, host_submit, host_submit_again, host_collect, tnc_hear, tnc_submit, tnc_collect}
+use Rattle.law.specs.Sides.{HostSide, TncSide, host_side, tnc_side, unchanged, Goes}
 use Rattle.host.specs.declared.note.DoubtNote.{DoubtNote}
-use Rattle.host.specs.declared.answer.Timed.{Timed}
-use Rattle.host.specs.declared.answer.Timed.TheVariants as timed
-use Rattle.host.specs.declared.answer.Heard.{Heard}
-use Rattle.host.specs.declared.answer.Heard.TheVariants as heard
-use Rattle.host.specs.declared.answer.Returned.{Returned}
-use Rattle.host.specs.Answers.{timer_answer, again_answer}
-use Rattle.host.specs.Hear.{hear_answer}
-use Rattle.host.specs.Model.{host_of}
-use Rattle.link.specs.declared.call.Answer.{Answer}
-use Rattle.link.specs.declared.call.Answer.TheVariants as answer
+use Rattle.host.specs.Answers as host
+use Rattle.host.specs.Hear as host_rules
+use Rattle.host.specs.Side as host_sides
+use Rattle.tnc.specs.Answers as tnc
+use Rattle.tnc.specs.Hear as tnc_rules
+use Rattle.tnc.specs.Side as tnc_sides
 use Rattle.link.specs.declared.call.Call.{Call}
 use Rattle.link.specs.declared.call.Call.TheVariants as call
-use Rattle.link.specs.declared.pair.Pair.{Pair}
-use Rattle.link.specs.Pair.{Stores, Shows, Made, Makes}
+use Rattle.link.specs.declared.event.Event.{Event}
+use Rattle.link.specs.declared.event.Event.TheVariants as event
+use Rattle.link.specs.declared.pair.Ends as kept
+use Rattle.link.specs.declared.pair.Stores.{Stores}
 
--- the note that a call hands out, or hands back
-abbrev pub timed_note : Result Timed Refusal → Option DoubtNote
-timed_note (Ok (timed.Repeated n)) = None
-timed_note (Ok (timed.Down f)) = f.doubt
-timed_note (Err e) = None
+-- both sides, and the wire buffer and the block buffer that each call is given
+pub record Both : Type 0 where
+  pub host : HostSide
+  pub tnc : TncSide
+  pub wire : List ℕ
+  pub block : List ℕ
 
-abbrev pub rule_note : Heard → Option DoubtNote
-rule_note heard.Stale = None
-rule_note heard.Opened = None
-rule_note (heard.Confirmed b) = None
-rule_note heard.BlockRefused = None
-rule_note heard.NothingThere = None
-rule_note heard.Received = None
-rule_note heard.Listed = None
-rule_note (heard.Down f) = f.doubt
+-- by what the four stores mean
+abbrev pub both : {A B C D : Type 0} → (A → Meaning) → (B → Meaning) → (C → Meaning) → (D → Meaning) → kept.Ends → Stores A B C D → List ℕ → List ℕ → Both
+both ho hi to ti e s wire block = record { host = host_sides.side e.host (ho s.host_out) (hi s.host_in); tnc = tnc_sides.side e.tnc (to s.tnc_out) (ti s.tnc_in); wire = wire; block = block }
 
-abbrev pub heard_note : Result (Option Heard) Refusal → Option DoubtNote
-heard_note (Ok None) = None
-heard_note (Ok (Some h)) = rule_note h
-heard_note (Err e) = None
+-- a call that was made, and what it left
+pub record Step : Type 0 where
+  pub event : Event
+  pub then : Both
 
-abbrev pub again_note : Result ℕ Returned → Option DoubtNote
-again_note (Ok n) = None
-again_note (Err r) = Some r.note
+-- WHAT A CALL DOES, as its own clauses say
 
-abbrev pub note_of : Answer → Option DoubtNote
-note_of (answer.Opened r) = None
-note_of (answer.Stepped r) = None
-note_of (answer.Timed r) = timed_note r
-note_of (answer.HostHeard r) = heard_note r
-note_of (answer.HostSubmitted r) = None
-note_of (answer.SubmittedAgain r) = again_note r
-note_of (answer.HostCollected r) = None
-note_of (answer.TncHeard r) = None
-note_of (answer.TncSubmitted r) = None
-note_of (answer.TncCollected r) = None
-note_of answer.NoNote = None
+abbrev pub call_of : Event → Call
+call_of (event.HostOpen r) = call.HostOpen
+call_of (event.HostStep r) = call.HostStep
+call_of (event.HostTimer r) = call.HostTimer
+call_of (event.HostHear byte r) = call.HostHear byte
+call_of (event.HostSubmit c b r) = call.HostSubmit c b
+call_of (event.HostSubmitAgain c n b r) = call.HostSubmitAgain b
+call_of (event.NoNote b) = call.HostSubmitAgain b
+call_of (event.HostCollect c r) = call.HostCollect c
+call_of (event.TncHear byte r) = call.TncHear byte
+call_of (event.TncSubmit c b r) = call.TncSubmit c b
+call_of (event.TncCollect c r) = call.TncCollect c
 
--- the note that is held after it: a new one takes the place of the one before
-abbrev pub later : Option DoubtNote → Option DoubtNote → Option DoubtNote
-later held None = held
-later held (Some new) = Some new
+-- what it answers
+abbrev pub Answers : Event → Both → Type 0
+Answers (event.HostOpen r) s = r ≡ host.open_answer s.host.host (length s.wire)
+Answers (event.HostStep r) s = r ≡ host.step_answer s.host.host s.host.out (length s.wire)
+Answers (event.HostTimer r) s = r ≡ host.timer_answer s.host.host (length s.wire)
+Answers (event.HostHear byte r) s = r ≡ host_rules.hear_answer (hears s.host.ear byte) s.host.host s.host.out s.host.inn
+Answers (event.HostSubmit c b r) s = r ≡ submit_answer s.host.host.submitted s.host.out c (plain b.now)
+Answers (event.HostSubmitAgain c n b r) s = r ≡ host.again_answer (submit_answer s.host.host.submitted s.host.out c (plain b.now)) (record { channel = c; number = n })
+Answers (event.NoNote b) s = Unit {0}
+Answers (event.HostCollect c r) s = r ≡ collect_answer s.host.inn c (length s.block)
+Answers (event.TncHear byte r) s = r ≡ tnc_rules.hear_answer (length s.wire) (hears s.tnc.ear byte) s.tnc.tnc s.tnc.out s.tnc.inn
+Answers (event.TncSubmit c b r) s = r ≡ submit_answer s.tnc.tnc.submitted s.tnc.out c (plain b.now)
+Answers (event.TncCollect c r) s = r ≡ collect_answer s.tnc.inn c (length s.block)
 
--- a submission once more, by the note that is held; where none is, there is no call
-abbrev pub again_call : List ℕ → Option DoubtNote → Option law.Call
-again_call b None = None
-again_call b (Some d) = Some (host_submit_again d.channel d.number (plain b))
+-- what it leaves
+abbrev pub host_left : HostStep → Both → Both
+host_left x s = record { host = record { host = x.host; ear = s.host.ear; out = x.out; inn = x.inn }; tnc = s.tnc; wire = request_wire x.wrote s.wire; block = s.block }
 
-abbrev pub again_after : List ℕ → Option DoubtNote → Pair → Stores → Option DoubtNote
-again_after b None p m = None
-again_after b (Some d) p m = again_note (again_answer (submit_answer (host_of p.host.link).submitted m.host_out d.channel (plain b)) d)
+abbrev pub host_heard : ℕ → HostStep → Both → Both
+host_heard byte x s = record { host = record { host = x.host; ear = (hears s.host.ear byte).then; out = x.out; inn = x.inn }; tnc = s.tnc; wire = s.wire; block = s.block }
 
--- the law's call that is made, with buffers as long as is asked
-abbrev pub law_call : Call → Option DoubtNote → Option law.Call
-law_call call.HostOpen held = Some (host_open longest_wire)
-law_call call.HostStep held = Some (host_step longest_wire)
-law_call call.HostTimer held = Some (host_timer longest_wire)
-law_call (call.HostHear byte place) held = Some (host_hear byte place)
-law_call (call.HostSubmit c b) held = Some (host_submit c (plain b.now))
-law_call (call.HostSubmitAgain b) held = again_call b.now held
-law_call (call.HostCollect c) held = Some (host_collect c longest_block)
-law_call (call.TncHear byte place) held = Some (tnc_hear longest_wire byte place)
-law_call (call.TncSubmit c b) held = Some (tnc_submit c (plain b.now))
-law_call (call.TncCollect c) held = Some (tnc_collect c longest_block)
+abbrev pub host_given : ℕ → List ℕ → Both → Both
+host_given c b s = record { host = record { host = host_counts s.host.host (submit_counts s.host.host.submitted s.host.out c (plain b)); ear = s.host.ear; out = submit_store s.host.host.submitted s.host.out c (plain b); inn = s.host.inn }; tnc = s.tnc; wire = s.wire; block = s.block }
 
--- the note that is held after it
-abbrev pub note_after : Call → Option DoubtNote → Pair → Stores → Option DoubtNote
-note_after call.HostOpen held p m = held
-note_after call.HostStep held p m = held
-note_after call.HostTimer held p m = later held (timed_note (timer_answer (host_of p.host.link) longest_wire))
-note_after (call.HostHear byte place) held p m = later held (heard_note (hear_answer (hears (heard_by p.host.ear) byte) (host_of p.host.link) m.host_out m.host_in))
-note_after (call.HostSubmit c b) held p m = held
-note_after (call.HostSubmitAgain b) held p m = again_after b.now held p m
-note_after (call.HostCollect c) held p m = held
-note_after (call.TncHear byte place) held p m = held
-note_after (call.TncSubmit c b) held p m = held
-note_after (call.TncCollect c) held p m = held
+abbrev pub tnc_heard : ℕ → TncStep → Both → Both
+tnc_heard byte x s = record { host = s.host; tnc = record { tnc = x.tnc; ear = cond (nat_lt (length s.wire) longest_wire) s.tnc.ear (hears s.tnc.ear byte).then; out = x.out; inn = x.inn }; wire = answer_wire x.wrote s.wire; block = s.block }
 
--- one call: what the law says of it; where there is none to make, all stays
-abbrev pub Goes : Option law.Call → Pair → Stores → Pair → Stores → Type 0
-Goes None p m q n = (q ≡ p) × (n ≡ m)
-Goes (Some k) p m q n = Makes k p m q n
+abbrev pub tnc_given : ℕ → List ℕ → Both → Both
+tnc_given c b s = record { host = s.host; tnc = record { tnc = tnc_counts s.tnc.tnc (submit_counts s.tnc.tnc.submitted s.tnc.out c (plain b)); ear = s.tnc.ear; out = submit_store s.tnc.tnc.submitted s.tnc.out c (plain b); inn = s.tnc.inn }; wire = s.wire; block = s.block }
 
--- The calls of a list, one after the other, each as one call goes, and with the note that is held: what they leave of the ends
--- and the stores is said of every list, whatever the log has.
-pub data Called (p : Pair) (m : Stores) (note : Option DoubtNote) : List Call → Pair → Stores → Option DoubtNote → Type 0 where
-  no_call : Called p m note [] p m note
-  one_more : (ks : List Call) (k : Call) {q o : Pair} {n i : Stores} {held : Option DoubtNote}
-      → Called p m note ks q n held → Goes (law_call k held) q n o i → Called p m note (ks ++ k ∷ []) o i (note_after k held q n)
+abbrev pub left : Event → Both → Both
+left (event.HostOpen r) s = host_left (open_call (length s.wire) s.host.host s.host.out s.host.inn) s
+left (event.HostStep r) s = host_left (step_call (length s.wire) s.host.host s.host.out s.host.inn) s
+left (event.HostTimer r) s = host_left (timer_call (length s.wire) s.host.host s.host.out s.host.inn) s
+left (event.HostHear byte r) s = host_heard byte (host_rules.hear_call (hears s.host.ear byte) s.host.host s.host.out s.host.inn) s
+left (event.HostSubmit c b r) s = host_given c b.now s
+left (event.HostSubmitAgain c n b r) s = host_given c b.now s
+left (event.NoNote b) s = s
+left (event.HostCollect c r) s = record { host = record { host = s.host.host; ear = s.host.ear; out = s.host.out; inn = collect_store s.host.inn c (length s.block) }; tnc = s.tnc; wire = s.wire; block = written_over (copy_source s.host.inn c (length s.block)) s.block }
+left (event.TncHear byte r) s = tnc_heard byte (tnc_rules.hear_call (length s.wire) (hears s.tnc.ear byte) s.tnc.tnc s.tnc.out s.tnc.inn) s
+left (event.TncSubmit c b r) s = tnc_given c b.now s
+left (event.TncCollect c r) s = record { host = s.host; tnc = record { tnc = s.tnc.tnc; ear = s.tnc.ear; out = s.tnc.out; inn = collect_store s.tnc.inn c (length s.block) }; wire = s.wire; block = written_over (copy_source s.tnc.inn c (length s.block)) s.block }
 
--- The calls of a list, one after the other, after a run r: each as the law says, after the run that the calls before it have made
--- of r. q and n are what is then left, with the note that is held, and t is the run so far.
-pub data Played (p : Pair) (m : Stores) (note : Option DoubtNote) {setting : ℕ} {l : Limits} {w : World} (r : Run setting l w) : List Call → Pair → Stores → Option DoubtNote → (v : World) → Run setting l v → Type 0 where
-  none : Played p m note r [] p m note w r
-  more : (ks : List Call) (k : Call) (c : law.Call) {q o : Pair} {n i : Stores} {held : Option DoubtNote} {v : World} {t : Run setting l v}
-      → Played p m note r ks q n held v t → law_call k held ≡ Some c → (made : Made c t o i)
-      → Played p m note r (ks ++ k ∷ []) o i (note_after k held q n) (act c v) (after t c made.allowed)
-  no_note : (ks : List Call) (k : Call) {q : Pair} {n : Stores} {held : Option DoubtNote} {v : World} {t : Run setting l v}
-      → Played p m note r ks q n held v t → law_call k held ≡ None
-      → Played p m note r (ks ++ k ∷ []) q n (note_after k held q n) v t
+-- WHAT THE LAW SAYS OF IT
 
--- a list was played, and what it left shows the world that the run then has reached
-pub record PlayedOn (p : Pair) (m : Stores) (note : Option DoubtNote) {setting : ℕ} {l : Limits} {w : World} (r : Run setting l w) (ks : List Call) (q : Pair) (n : Stores) (held : Option DoubtNote) : Type 0 where
-  pub reached : World
-  pub run : Run setting l reached
-  pub played : Played p m note r ks q n held reached run
-  pub shows : Shows q n reached
+-- the law's call, by the place of the frame that passes with it; where no note was given, there is none
+abbrev pub law_call : Event → Both → Option (ℕ → law.Call)
+law_call (event.HostOpen r) s = Some (λ i. host_open (length s.wire))
+law_call (event.HostStep r) s = Some (λ i. host_step (length s.wire))
+law_call (event.HostTimer r) s = Some (λ i. host_timer (length s.wire))
+law_call (event.HostHear byte r) s = Some (λ i. host_hear byte i)
+law_call (event.HostSubmit c b r) s = Some (λ i. host_submit c (plain b.now))
+law_call (event.HostSubmitAgain c n b r) s = Some (λ i. host_submit_again c n (plain b.now))
+law_call (event.NoNote b) s = None
+law_call (event.HostCollect c r) s = Some (λ i. host_collect c (length s.block))
+law_call (event.TncHear byte r) s = Some (λ i. tnc_hear (length s.wire) byte i)
+law_call (event.TncSubmit c b r) s = Some (λ i. tnc_submit c (plain b.now))
+law_call (event.TncCollect c r) s = Some (λ i. tnc_collect c (length s.block))
 
--- so it is after every run that reached a world which p and m show, as long as the log is whole
-abbrev pub Plays : Pair → Stores → Option DoubtNote → List Call → Pair → Stores → Option DoubtNote → Type 0
-Plays p m note ks q n held = q.log.gap ≡ None → (p.log.gap ≡ None) × ((setting : ℕ) (l : Limits) (w : World) (r : Run setting l w) → Shows p m w → PlayedOn p m note r ks q n held)
+-- what its answer and its buffers tell of the frames sent and of the two ways
+pub record Told : Type 0 where
+  pub up : List ℕ
+  pub dn : List ℕ
+  pub to_tnc : Way → Way
+  pub to_host : Way → Way
+
+abbrev pub tells : List ℕ → List ℕ → (Way → Way) → (Way → Way) → Told
+tells up dn to_tnc to_host = record { up = up; dn = dn; to_tnc = to_tnc; to_host = to_host }
+
+abbrev pub told : Event → Both → Told
+told (event.HostOpen r) t = tells (take (result_unwrap_or r 0) t.wire) [] unchanged unchanged
+told (event.HostStep r) t = tells (take (host_sides.step_length r) t.wire) [] unchanged unchanged
+told (event.HostTimer r) t = tells (take (host_sides.timer_length r) t.wire) [] (naming (host.timed_word r)) unchanged
+told (event.HostHear byte r) t = tells [] [] (naming (host.byte_word r)) unchanged
+told (event.HostSubmit c b r) t = tells [] [] (submitting (is_ok r) c (plain b.now)) unchanged
+told (event.HostSubmitAgain c n b r) t = tells [] [] (submitting (is_ok r) c (plain b.now)) unchanged
+told (event.NoNote b) t = tells [] [] unchanged unchanged
+told (event.HostCollect c r) t = tells [] [] unchanged (collecting (is_ok r) c (plain (take (result_unwrap_or r 0) t.block) ∷ []))
+told (event.TncHear byte r) t = tells [] (take (tnc_sides.hear_length r) t.wire) unchanged (naming (tnc.byte_word r))
+told (event.TncSubmit c b r) t = tells [] [] unchanged (submitting (is_ok r) c (plain b.now))
+told (event.TncCollect c r) t = tells [] [] (collecting (is_ok r) c (plain (take (result_unwrap_or r 0) t.block) ∷ [])) unchanged
+
+-- where there is one: after every run whose world has both sides as they were, and at every place that the line rule allows
+abbrev pub LawOf : Option (ℕ → law.Call) → Both → Both → Told → Type 0
+LawOf None s t told = t ≡ s
+LawOf (Some k) s t told = (i : ℕ) (setting : ℕ) (l : Limits) (w : World) (r : Run setting l w) → host_side w ≡ s.host → tnc_side w ≡ s.tnc → Allowed (k i) w
+    → Goes (k i) r t.host t.tnc told.up told.dn (told.to_tnc w.to_tnc) (told.to_host w.to_host)
+
+-- LISTS
+
+-- one call: its answer, what it left, and the law
+pub record One (s : Both) (e : Event) (t : Both) : Type 0 where
+  pub answers : Answers e s
+  pub leaves : t ≡ left e s
+  pub law : LawOf (law_call e s) s t (told e t)
+
+-- each call found what the one before left
+abbrev pub Each : Both → List Step → Both → Type 0
+Each s [] t = s ≡ t
+Each s (x ∷ xs) t = One s x.event x.then × Each x.then xs t
+
+-- the observer gave the notes and was told of each call, in order
+module _ {W : Type 0} (gives : W → Option DoubtNote → W → Type 0) (sees : W → Event → List ℕ → List ℕ → W → Type 0) where
+  abbrev pub Gave : Event → W → W → Type 0
+  Gave (event.HostOpen r) v u = v ≡ u
+  Gave (event.HostStep r) v u = v ≡ u
+  Gave (event.HostTimer r) v u = v ≡ u
+  Gave (event.HostHear byte r) v u = v ≡ u
+  Gave (event.HostSubmit c b r) v u = v ≡ u
+  Gave (event.HostSubmitAgain c n b r) v u = gives v (Some (record { channel = c; number = n })) u
+  Gave (event.NoNote b) v u = gives v None u
+  Gave (event.HostCollect c r) v u = v ≡ u
+  Gave (event.TncHear byte r) v u = v ≡ u
+  Gave (event.TncSubmit c b r) v u = v ≡ u
+  Gave (event.TncCollect c r) v u = v ≡ u
+
+  abbrev pub Seen : W → List Step → W → Type 0
+  Seen v [] u = v ≡ u
+  Seen v (x ∷ xs) u = (asked : W) × (saw : W) × Gave x.event v asked × sees asked x.event x.then.wire x.then.block saw × Seen saw xs u
+
+-- A run goes on by each call that was made, at every place that the line rule allows where the run then is, and the law holds
+-- after each.
+abbrev pub GoesOn : Both → List Step → {setting : ℕ} {l : Limits} {w : World} → Run setting l w → Type 0
+GoesOn s [] r = Unit {0}
+GoesOn s (x ∷ xs) {setting} {l} {w} r = MatchOption (law_call x.event s) (GoesOn x.then xs r)
+    (λ k. (i : ℕ) (ok : Allowed (k i) w) → Goes (k i) r x.then.host x.then.tnc (told x.event x.then).up (told x.event x.then).dn ((told x.event x.then).to_tnc w.to_tnc) ((told x.event x.then).to_host w.to_host)
+    × GoesOn x.then xs (after r (k i) ok))
+
+-- A list was played: some steps, which are its calls, each as its own clauses say; the observer was told each; and after every
+-- run that reached a world with both sides as they were, the run goes on by them.
+pub record Plays {W : Type 0} (gives : W → Option DoubtNote → W → Type 0) (sees : W → Event → List ℕ → List ℕ → W → Type 0) (calls : List Call) (s t : Both) (v u : W) : Type 0 where
+  pub steps : List Step
+  pub calls_are : map (λ (x : Step). call_of x.event) steps ≡ calls
+  pub each : Each s steps t
+  pub seen : Seen gives sees v steps u
+  pub law : (setting : ℕ) (l : Limits) (w : World) (r : Run setting l w) → host_side w ≡ s.host → tnc_side w ≡ s.tnc → GoesOn s steps r

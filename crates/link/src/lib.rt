@@ -1,9 +1,8 @@
-// Both ends of the link together: a host and a TNC, what each has sent, and the delivery law of their calls.
+// Both ends of the link in one program: lists of calls on them, and the delivery law of what they did.
 #![tactic(auto)]
 
 pub mod call;
-pub mod line;
-pub mod log;
+pub mod event;
+pub mod observer;
 pub mod pair;
-pub mod sender;
-pub mod way;
+pub mod playing;

@@ -1,18 +1,19 @@
-// Both ends with what each has sent. The calls stand in the modules below, since their clauses name the pair.
-use crate::log::Log;
+// Both ends, and their four stores.
 use host::host::Host;
 use tnc::tnc::Tnc;
 
-pub mod host_calls;
-pub mod making;
-pub mod passing;
-pub mod playing;
-pub mod tnc_calls;
-
-/// A host, a TNC, and the log of what they have sent.
+/// A host and a TNC.
 #[derive(Drop)]
-pub struct Pair {
-    host: Host,
-    tnc: Tnc,
-    log: Log,
+pub struct Ends {
+    pub host: Host,
+    pub tnc: Tnc,
+}
+
+/// The four stores of both ends.
+#[derive(Drop)]
+pub struct Stores<A, B, C, D> {
+    pub host_out: A,
+    pub host_in: B,
+    pub tnc_out: C,
+    pub tnc_in: D,
 }

@@ -4,3 +4,5 @@ mod Waiting
 mod Rules
 mod Naming
 mod Hearing
+mod Acts
+mod Laws

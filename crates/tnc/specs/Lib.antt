@@ -7,3 +7,4 @@ pub mod Answers
 pub mod Answered
 pub mod Left
 pub mod Hear
+pub mod Side

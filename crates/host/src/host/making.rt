@@ -6,7 +6,11 @@ ghost use Rattle.ends.specs.Limits.{most_repeats};
 ghost use Rattle.ends.specs.Ear.{heard_by};
 ghost use Rattle.ends.specs.Counts.{submitted_of, gone_of};
 ghost use Rattle.ends.specs.Host.{new_host};
+ghost use Rattle.store.specs.Meaning.{empty};
+ghost use Rattle.law.specs.Runs.{Limits, begin};
+ghost use Rattle.law.specs.Sides.{host_side};
 ghost use Rattle.host.specs.Model.{host_of};
+ghost use Rattle.host.specs.Side.{side};
 
 use super::{Host, Link, State};
 use crate::sent::{Asked, Sent};
@@ -22,7 +26,7 @@ pub const MOST_REPEATS: u8 = 15;
 impl Host {
     /// A fresh host that repeats a frame as often as set; refuses 18 above 15.
     pub fn new(repeats: u8) -> Result<Host, Refusal>
-        ensures { MatchResult result (λ h. (host_of h.link ≡ new_host repeats) × (heard_by h.ear ≡ fresh Direction.FromTnc)) (λ e. (most_repeats < repeats) × (e ≡ ManyRepeats)) }
+        ensures { MatchResult result (λ h. (host_of h.link ≡ new_host repeats) × (heard_by h.ear ≡ fresh Direction.FromTnc) × ((l : Limits) → host_side (begin repeats l) ≡ side h (empty l.host_out) (empty l.host_in))) (λ e. (most_repeats < repeats) × (e ≡ ManyRepeats)) }
     {
         if repeats > MOST_REPEATS {
             return Err(Refusal::ManyRepeats);

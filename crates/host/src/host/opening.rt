@@ -1,12 +1,16 @@
 // Opening the link.
-ghost use Rattle.std.specs.Prelude.{◌≡◌, ◌≤◌, length, IfOk};
+ghost use Rattle.std.specs.Prelude.{◌≡◌, ◌≤◌, length, take, IfOk};
+ghost use Rattle.std.specs.Result.{result_unwrap_or};
 ghost use Rattle.store.specs.Meaning.{Meaning};
 ghost use Rattle.ends.specs.Host.{one_reset_more, open_call};
 ghost use Rattle.host.specs.Model.{host_of};
-ghost use Rattle.host.specs.Left.{Left};
+ghost use Rattle.law.specs.Runs.{host_open};
+ghost use Rattle.law.specs.Sides.{HostLaw, unchanged};
+ghost use Rattle.host.specs.Left.{Left, Leaves};
 ghost use Rattle.host.specs.Answers.{open_answer};
+ghost use Rattle.host.specs.Side.{side};
 
-use super::{Host, State};
+use super::{Host, Link, State};
 use crate::sent::Sent;
 use ends::refusal::Refusal;
 use poll::list::PollList;
@@ -21,8 +25,23 @@ impl Host {
         ensures answer { result ≡ open_answer (host_of self.old.link) (length wire.old) }
         ensures bound { IfOk result (λ n. n ≤ length wire.old) }
         ensures after { (out inn : Meaning) → Left (open_call (length wire.old) (host_of self.old.link) out inn) self.old self.new out inn wire.old wire.new }
+        ensures law { (out inn : Meaning) → HostLaw (host_open (length wire.old))
+            (side self.old out inn)
+            (side self.new out inn)
+            (take (result_unwrap_or result 0) wire.new) unchanged unchanged }
     {
-        match self.link.state {
+        self.link.open(wire)
+    }
+}
+
+impl Link {
+    // Sends it.
+    fn open(&mut self, wire: &mut [u8]) -> Result<usize, Refusal>
+        ensures answer { result ≡ open_answer (host_of self.old) (length wire.old) }
+        ensures bound { IfOk result (λ n. n ≤ length wire.old) }
+        ensures after { (out inn : Meaning) → Leaves (open_call (length wire.old) (host_of self.old) out inn) (host_of self.new) out inn wire.old wire.new }
+    {
+        match self.state {
             State::Opening(_) | State::Idle | State::OnItsWay(_) => {
                 return Err(Refusal::WrongState);
             }
@@ -31,10 +50,10 @@ impl Host {
         if wire.len() < WIRE {
             return Err(Refusal::ShortWire);
         }
-        self.link.list = PollList::empty();
-        self.link.resets = one_reset(self.link.resets);
-        self.link.state = State::Opening(0);
-        Ok(Sent::reset(self.link.generation).write(wire))
+        self.list = PollList::empty();
+        self.resets = one_reset(self.resets);
+        self.state = State::Opening(0);
+        Ok(Sent::reset(self.generation).write(wire))
     }
 }
 

@@ -1,11 +1,14 @@
 // The step: what is sent next.
-ghost use Rattle.std.specs.Prelude.{◌≡◌, ◌≤◌, length, IfOk};
+ghost use Rattle.std.specs.Prelude.{◌≡◌, ◌≤◌, length, take, IfOk};
 ghost use Rattle.store.specs.Meaning.{Meaning};
 ghost use Rattle.ends.specs.Host.{step_call};
 ghost use Rattle.host.specs.Model.{host_of};
-ghost use Rattle.host.specs.Left.{Left};
+ghost use Rattle.law.specs.Runs.{host_step};
+ghost use Rattle.law.specs.Sides.{HostLaw, unchanged};
+ghost use Rattle.host.specs.Left.{Left, Leaves};
 ghost use Rattle.host.specs.Picked.{LowestIs, PickedBy};
 ghost use Rattle.host.specs.Answers.{step_answer};
+ghost use Rattle.host.specs.Side.{side, step_length};
 
 use super::{Host, Link, State};
 use crate::answer::{StepRule, Stepped};
@@ -31,8 +34,23 @@ impl Host {
         ensures answer { result ≡ step_answer (host_of self.old.link) (O.Store.meaning out.now) (length wire.old) }
         ensures bound { IfOk result (λ s. s.sent ≤ length wire.old) }
         ensures after { (inn : Meaning) → Left (step_call (length wire.old) (host_of self.old.link) (O.Store.meaning out.now) inn) self.old self.new (O.Store.meaning out.now) inn wire.old wire.new }
+        ensures law { (inn : Meaning) → HostLaw (host_step (length wire.old))
+            (side self.old (O.Store.meaning out.now) inn)
+            (side self.new (O.Store.meaning out.now) inn)
+            (take (step_length result) wire.new) unchanged unchanged }
     {
-        match self.link.state {
+        self.link.step(out, wire)
+    }
+}
+
+impl Link {
+    // Sends it.
+    fn step<O: Store>(&mut self, out: &O, wire: &mut [u8]) -> Result<Stepped, Refusal>
+        ensures answer { result ≡ step_answer (host_of self.old) (O.Store.meaning out.now) (length wire.old) }
+        ensures bound { IfOk result (λ s. s.sent ≤ length wire.old) }
+        ensures after { (inn : Meaning) → Leaves (step_call (length wire.old) (host_of self.old) (O.Store.meaning out.now) inn) (host_of self.new) (O.Store.meaning out.now) inn wire.old wire.new }
+    {
+        match self.state {
             State::Idle => {}
             State::Fresh | State::Opening(_) | State::OnItsWay(_) | State::Down => {
                 return Err(Refusal::WrongState);
@@ -41,24 +59,22 @@ impl Host {
         if wire.len() < WIRE {
             return Err(Refusal::ShortWire);
         }
-        let Picked { rule, asked } = self.link.pick(out);
-        if !self.link.refused {
-            self.link.list.drop_first();
+        let Picked { rule, asked } = self.pick(out);
+        if !self.refused {
+            self.list.drop_first();
         }
-        self.link.sent = Sent {
+        self.sent = Sent {
             asked,
             reset: false,
-            toggle: !self.link.last,
+            toggle: !self.last,
         };
-        self.link.state = State::OnItsWay(0);
+        self.state = State::OnItsWay(0);
         Ok(Stepped {
             rule,
-            sent: self.link.sent.write(wire),
+            sent: self.sent.write(wire),
         })
     }
-}
 
-impl Link {
     // The first that applies.
     fn pick<O: Store>(&self, out: &O) -> Picked
         ensures { PickedBy (host_of self.now) (O.Store.meaning out.now) result }

@@ -1,12 +1,16 @@
 // Blocks that are handed to the host, and those that it hands out.
-ghost use Rattle.std.specs.Prelude.{◌≡◌, ◌≤◌, length, IfOk};
+ghost use Rattle.std.specs.Prelude.{◌≡◌, ◌≤◌, [], ◌∷◌, length, take, IfOk, is_ok};
+ghost use Rattle.std.specs.Result.{result_unwrap_or};
 ghost use Rattle.frame.specs.Frame.{longest_block};
-ghost use Rattle.store.specs.Meaning.{plain};
+ghost use Rattle.store.specs.Meaning.{Meaning, plain};
 ghost use Rattle.store.specs.Rules.{copy_source, written_over};
 ghost use Rattle.ends.specs.Blocks.{submit_answer, submit_counts, submit_store, collect_answer, collect_store};
 ghost use Rattle.ends.specs.Host.{host_counts};
+ghost use Rattle.law.specs.Runs.{submitting, collecting, host_submit, host_submit_again, host_collect};
+ghost use Rattle.law.specs.Sides.{HostLaw, unchanged};
 ghost use Rattle.host.specs.Model.{host_of};
 ghost use Rattle.host.specs.Answers.{again_answer};
+ghost use Rattle.host.specs.Side.{side};
 
 use super::Host;
 use crate::answer::Returned;
@@ -27,6 +31,10 @@ impl Host {
         ensures after { host_of self.new.link ≡ host_counts (host_of self.old.link) (submit_counts (host_of self.old.link).submitted (O.Store.meaning out.old) channel (plain block.now)) }
         ensures ear { self.new.ear ≡ self.old.ear }
         ensures out { O.Store.meaning out.new ≡ submit_store (host_of self.old.link).submitted (O.Store.meaning out.old) channel (plain block.now) }
+        ensures law { (inn : Meaning) → HostLaw (host_submit channel (plain block.now))
+            (side self.old (O.Store.meaning out.old) inn)
+            (side self.new (O.Store.meaning out.new) inn)
+            [] (submitting (is_ok result) channel (plain block.now)) unchanged }
     {
         self.link.counts.submit(out, channel, block)
     }
@@ -42,6 +50,10 @@ impl Host {
         ensures after { host_of self.new.link ≡ host_counts (host_of self.old.link) (submit_counts (host_of self.old.link).submitted (O.Store.meaning out.old) note.channel (plain block.now)) }
         ensures ear { self.new.ear ≡ self.old.ear }
         ensures out { O.Store.meaning out.new ≡ submit_store (host_of self.old.link).submitted (O.Store.meaning out.old) note.channel (plain block.now) }
+        ensures law { (inn : Meaning) → HostLaw (host_submit_again note.channel note.number (plain block.now))
+            (side self.old (O.Store.meaning out.old) inn)
+            (side self.new (O.Store.meaning out.new) inn)
+            [] (submitting (is_ok result) note.channel (plain block.now)) unchanged }
     {
         match self.submit(out, note.channel(), block) {
             Ok(number) => {
@@ -64,6 +76,10 @@ impl Host {
         ensures bound { IfOk result (λ n. (n ≤ longest_block) × (n ≤ length buffer.old)) }
         ensures buffer { buffer.new ≡ written_over (copy_source (I.Store.meaning inn.old) channel (length buffer.old)) buffer.old }
         ensures inn { I.Store.meaning inn.new ≡ collect_store (I.Store.meaning inn.old) channel (length buffer.old) }
+        ensures law { (out : Meaning) → HostLaw (host_collect channel (length buffer.old))
+            (side self.now out (I.Store.meaning inn.old))
+            (side self.now out (I.Store.meaning inn.new))
+            [] unchanged (collecting (is_ok result) channel (plain (take (result_unwrap_or result 0) buffer.new) ∷ [])) }
     {
         collect(inn, channel, buffer)
     }

@@ -1,9 +1,13 @@
 // How a TNC is made, and what it is asked.
-ghost use Rattle.std.specs.Prelude.{◌≡◌, ◌-◌};
+ghost use Rattle.std.specs.Prelude.{◌≡◌, ◌-◌, ℕ};
 ghost use Rattle.reader.specs.Read.{fresh};
 ghost use Rattle.ends.specs.Ear.{heard_by};
 ghost use Rattle.ends.specs.Tnc.{new_tnc};
+ghost use Rattle.store.specs.Meaning.{empty};
+ghost use Rattle.law.specs.Runs.{Limits, begin};
+ghost use Rattle.law.specs.Sides.{tnc_side};
 ghost use Rattle.tnc.specs.Model.{tnc_of};
+ghost use Rattle.tnc.specs.Side.{side};
 
 use super::{Link, Tnc};
 use ends::counts::Counts;
@@ -15,6 +19,7 @@ impl Tnc {
     pub fn new() -> Tnc
         ensures link { tnc_of result.link ≡ new_tnc }
         ensures ear { heard_by result.ear ≡ fresh Direction.FromHost }
+        ensures begins { (setting : ℕ) (l : Limits) → tnc_side (begin setting l) ≡ side result (empty l.tnc_out) (empty l.tnc_in) }
     {
         Tnc {
             ear: Ear::new(Direction::FromHost),

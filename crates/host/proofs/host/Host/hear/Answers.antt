@@ -1,8 +1,6 @@
--- What the host's ear shows is the body of a frame of the TNC.
-use Rattle.std.proofs.Common.{ap, ◌∙◌}
-use Rattle.ends.specs.Ear.{heard_by, hears_tnc}
-use Rattle.host.proofs.Hearing.{of_tnc}
+-- The run goes on by the call.
+use Rattle.host.proofs.Laws.{hears_it}
 use Rattle.host.proofs.host.Host.hear.Goals as goal
 
-pub of-requires : goal.of-requires
-of-requires g c = of_tnc (heard_by c.hear.new.self).direction _ (ap hears_tnc c.hear.ensures.direction ∙ c.args.self.now.from) c.in-Some.ensures.frame
+pub returns-clause-law : goal.returns-clause-law
+returns-clause-law g c = λ i. hears_it c.args.self.now c.byte.new.self c.args.byte i _ _ _ _ _ c.byte.ensures.named c.byte.ensures.after c.byte.ensures.ear

@@ -1,0 +1,23 @@
+// Who is told what each call of a list did.
+ghost use Rattle.std.specs.Prelude.{ℕ, List, Option};
+ghost use Rattle.host.specs.declared.note.DoubtNote.{DoubtNote};
+ghost use Rattle.link.specs.declared.event.Event.{Event};
+
+use crate::event::Event;
+use host::note::DoubtNote;
+
+/// Is told of each call, and has the doubt notes: those that come are in what it is told, and it gives one for a submission
+/// once more.
+pub trait Observer {
+    /// What giving a note makes of it.
+    ghost gives: { Self → Option DoubtNote → Self → Type 0 };
+
+    /// What being told makes of it: of the call, and of the wire buffer and the block buffer after it.
+    ghost sees: { Self → Event → List ℕ → List ℕ → Self → Type 0 };
+
+    fn note(&mut self) -> Option<DoubtNote>
+        ensures { gives self.old result self.new };
+
+    fn observe(&mut self, event: Event, wire: &[u8], block: &[u8])
+        ensures { sees self.old event.entry wire.now block.now self.new };
+}
