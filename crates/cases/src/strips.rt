@@ -5,6 +5,7 @@ use std::process::Abort;
 use std::test::Fail;
 use store::Store;
 use strip::Strip;
+use strip::refusal::check;
 
 /// An area's length, and the limit of a strip in it; none where it is refused.
 static AREAS: [(usize, Option<usize>); 8] = [
@@ -29,8 +30,8 @@ fn areas(rt: HostRuntime) -> Result<(), Fail> {
 // The limit of a strip in an area of that length; none where it is refused, and then by 17.
 fn limit_in(rt: &impl Abort, heap: Global, len: usize) -> Result<Option<usize>, Fail> {
     let mut area = vec![in heap; 0u8; len]?;
-    match Strip::over(area.as_mut_slice()) {
-        Ok(strip) => Ok(Some(strip.limit())),
+    match check(area.as_slice()) {
+        Ok(()) => Ok(Some(Strip::new(area.as_mut_slice()).limit())),
         Err(refusal) => {
             assert_eq!(rt; refusal.number(), 17);
             Ok(None)

@@ -1,5 +1,5 @@
 -- Frames and their bodies: what may be sent either way, and which bytes it is.
-use Rattle.std.specs.Prelude.{◌≡◌, ℕ, ◌+◌, ◌-◌, ◌/◌, ◌%◌, ◌<◌, ◌≤◌, Bool, cond, ◌⊎◌, List, [], ◌∷◌, ◌++◌, length, Some, None, Option, ◌==◌, ◌≢◌, nat_lt, slice_index}
+use Rattle.std.specs.Prelude.{◌≡◌, ℕ, ◌+◌, ◌-◌, ◌/◌, ◌%◌, ◌<◌, ◌≤◌, Bool, cond, ◌⊎◌, ◌↔◌, List, [], ◌∷◌, ◌++◌, length, Some, None, Option, ◌==◌, ◌≢◌, nat_lt, slice_index}
 use Rattle.poll.specs.Channel.{last_channel}
 use Rattle.frame.specs.declared.form.Direction.{Direction}
 use Rattle.frame.specs.declared.form.Direction.TheVariants.{FromHost, FromTnc}
@@ -90,3 +90,7 @@ frame_in body payload = record {
   toggle = toggle_in (slice_index body 1);
   payload = payload;
 }
+
+-- a body that was read: as a frame exactly if it is that frame's body, and so as none if it is that of no frame
+abbrev pub IsReadAs : Direction → List ℕ → Option Frame → Type 0
+IsReadAs d body o = (f : Frame) → Body d body f ↔ (o ≡ Some f)

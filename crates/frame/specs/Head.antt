@@ -1,5 +1,5 @@
--- The head of a frame and the two bytes that it is read from.
-use Rattle.std.specs.Prelude.{◌≡◌, ℕ, ◌<◌, ◌≤◌, ◌⊎◌, List, length, slice_index}
+-- The head of a frame, and the two bytes that it is read from.
+use Rattle.std.specs.Prelude.{◌≡◌, ℕ}
 use Rattle.frame.specs.declared.head.Address.{Address}
 use Rattle.frame.specs.declared.head.Address.TheVariants.{Channel, General}
 use Rattle.frame.specs.declared.head.Head.{Head}
@@ -11,22 +11,12 @@ abbrev pub byte_of : Address → ℕ
 byte_of (Channel c) = c.number
 byte_of General = general
 
--- a body without a head is too short, or has no channel byte
-abbrev pub NoHead : List ℕ → Type 0
-NoHead body = (length body < 2) ⊎ (ChannelByte (slice_index body 0) → ⊥)
-
--- the head that a body begins with
-pub record HeadIn (body : List ℕ) (h : Head) : Type 0 where
-  pub long : 2 ≤ length body
-  pub address : byte_of h.address ≡ slice_index body 0
-  pub reset : h.reset ≡ reset_in (slice_index body 1)
-  pub toggle : h.toggle ≡ toggle_in (slice_index body 1)
-
--- the head of a frame
-pub record HeadOf (f : Frame) (h : Head) : Type 0 where
-  pub address : byte_of h.address ≡ f.channel
-  pub reset : h.reset ≡ f.reset
-  pub toggle : h.toggle ≡ f.toggle
+-- the head that a channel byte and a code byte make
+pub record IsHeadOf (channel code : ℕ) (h : Head) : Type 0 where
+  pub channel_byte : ChannelByte channel
+  pub address : byte_of h.address ≡ channel
+  pub reset : h.reset ≡ reset_in code
+  pub toggle : h.toggle ≡ toggle_in code
 
 -- the frame of this head that shows this code and payload
 abbrev pub framed : Head → Shown → Frame

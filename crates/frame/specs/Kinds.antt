@@ -1,5 +1,5 @@
--- The kinds of frames: the code of each and what it shows, and what it means that a body is read as one.
-use Rattle.std.specs.Prelude.{◌≡◌, ℕ, List, [], Some, None, IsSome, Option, ◌≢◌, refl, slice_index}
+-- The kinds of frames: the code of each, what it shows, and for which address it is.
+use Rattle.std.specs.Prelude.{◌≡◌, ℕ, List, [], Some, None, IsSome, Option, ◌≢◌, ⊤, refl}
 use Rattle.std.specs.Borrow.{Bor}
 use Rattle.frame.specs.declared.form.Direction.{Direction}
 use Rattle.frame.specs.declared.form.Direction.TheVariants.{FromHost, FromTnc}
@@ -9,7 +9,9 @@ use Rattle.frame.specs.declared.frames.HostFrame.{HostFrame}
 use Rattle.frame.specs.declared.frames.HostFrame.TheVariants as host
 use Rattle.frame.specs.declared.frames.TncFrame.{TncFrame}
 use Rattle.frame.specs.declared.frames.TncFrame.TheVariants as tnc
-use Rattle.frame.specs.Frame.{Frame, Body, Carries, carried, form_of, code_in, frame_in}
+use Rattle.frame.specs.declared.head.Address.{Address}
+use Rattle.frame.specs.declared.head.Address.TheVariants.{Channel, General}
+use Rattle.frame.specs.Frame.{Carries, carried, form_of}
 
 -- what a parsed frame shows: its code, and its message, list or block
 pub record Shown : Type 0 where
@@ -26,6 +28,7 @@ host_shows (host.Command p) = shows 1 p.now
 abbrev pub tnc_shows : TncFrame → Shown
 tnc_shows tnc.Success = shows 0 []
 tnc_shows (tnc.Message p) = shows 1 p.now
+tnc_shows (tnc.List p) = shows 1 p.now
 tnc_shows (tnc.Failure p) = shows 2 p.now
 tnc_shows (tnc.Status p) = shows 3 p.now
 tnc_shows (tnc.HeaderAlone p) = shows 4 p.now
@@ -51,6 +54,7 @@ host_known (host.Command p) = refl
 pub tnc_known : (f : TncFrame) → IsSome (form_of FromTnc (tnc_shows f).code)
 tnc_known tnc.Success = refl
 tnc_known (tnc.Message p) = refl
+tnc_known (tnc.List p) = refl
 tnc_known (tnc.Failure p) = refl
 tnc_known (tnc.Status p) = refl
 tnc_known (tnc.HeaderAlone p) = refl
@@ -58,19 +62,16 @@ tnc_known (tnc.HeaderFirst p) = refl
 tnc_known (tnc.Monitored p) = refl
 tnc_known (tnc.Information p) = refl
 
-abbrev pub what_is_shown : Frame → Shown
-what_is_shown f = shows f.code f.payload
+-- a list answers the general poll alone, and a message a channel alone; every other case is for every address
+abbrev pub host_suits : Address → HostFrame → Type 0
+host_suits a f = ⊤
+
+abbrev pub tnc_suits : Address → TncFrame → Type 0
+tnc_suits General (tnc.Message p) = ⊥
+tnc_suits (Channel c) (tnc.List p) = ⊥
+tnc_suits a f = ⊤
 
 -- the payload that the bytes after a code byte carry in that form; none where they carry none
 abbrev pub Holds : Form → List ℕ → Option (Bor (List ℕ)) → Type 0
 Holds m rest None = (p : List ℕ) → Carries m p → rest ≢ carried m p
 Holds m rest (Some p) = Carries m p.now × (rest ≡ carried m p.now)
-
--- a body read: as none where it is the body of no frame, else as one whose body it is
-abbrev pub Reads : Direction → List ℕ → Option Shown → Type 0
-Reads d body None = (f : Frame) → Body d body f → ⊥
-Reads d body (Some s) = (s.code ≡ code_in (slice_index body 1)) × Body d body (frame_in body s.payload)
-
--- whatever frame the body was built from is what it is read as
-abbrev pub Built : Direction → List ℕ → Option Shown → Type 0
-Built d body o = (f : Frame) → Body d body f → o ≡ Some (what_is_shown f)

@@ -1,28 +1,33 @@
 // Parsed frames of both directions. Each case borrows its message, list or block from the body.
-ghost use Rattle.std.specs.Prelude.{◌≡◌, IsSome};
+ghost use Rattle.std.specs.Prelude.{◌≡◌, IsSome, IfSome};
 ghost use Rattle.std.specs.Option.{option_map};
 ghost use Rattle.frame.specs.declared.form.Direction.{Direction};
 ghost use Rattle.frame.specs.declared.form.Direction.TheVariants.{FromHost, FromTnc};
-ghost use Rattle.frame.specs.Frame.{form_of};
-ghost use Rattle.frame.specs.Kinds.{Shown, shown_of, host_shows, tnc_shows, host_known, tnc_known, Reads, Built};
+ghost use Rattle.frame.specs.declared.head.Address.{Address};
+ghost use Rattle.frame.specs.Frame.{form_of, IsReadAs};
+ghost use Rattle.frame.specs.Head.{framed};
+ghost use Rattle.frame.specs.Kinds.{Shown, shown_of, host_shows, tnc_shows, host_known, tnc_known, host_suits, tnc_suits};
 
 use crate::form::{Direction, Form};
-use crate::head::Address;
+use crate::head::{Address, Head};
 
 /// The parsed frames of one direction: a case for each code, with the payload that it borrows.
 pub trait Parsed<'a>: Copy {
-    // whose frames they are, and the code and payload that each shows
+    // whose frames they are, the code and payload that each shows, and whether it is the case for an address
     ghost direction: { Direction };
 
     ghost shows: { Self → Shown };
+
+    ghost suits: { Address → Self → Type 0 };
 
     /// Whose frames they are.
     fn direction() -> Direction
         ensures { result ≡ direction };
 
-    /// The case of a code, with the payload; none where the direction does not know the code.
-    fn with(code: u8, payload: &'a [u8]) -> Option<Self>
-        ensures { option_map shows result ≡ shown_of direction code payload.now };
+    /// The case of a code in a frame for that address, with the payload; none where the direction does not know the code.
+    fn with(address: Address, code: u8, payload: &'a [u8]) -> Option<Self>
+        ensures shows { option_map shows result ≡ shown_of direction code payload.now }
+        ensures suits { IfSome result (suits address) };
 
     /// The code of its case. (A match in each impl: a case with a field has no number of its own.)
     fn code(self) -> u8
@@ -48,8 +53,10 @@ pub enum HostFrame<'a> {
 pub enum TncFrame<'a> {
     /// Done, and nothing follows.
     Success,
-    /// Done, with a message; to the general poll, a poll list.
+    /// Done, with a message for a channel.
     Message(&'a [u8]),
+    /// Done, with the poll list that answers the general poll: listed values, which `PollList::read` checks.
+    List(&'a [u8]),
     Failure(&'a [u8]),
     Status(&'a [u8]),
     /// The header of a monitored frame without information.
@@ -65,6 +72,8 @@ impl<'a> Parsed<'a> for HostFrame<'a> {
 
     ghost shows = { host_shows };
 
+    ghost suits = { host_suits };
+
     ghost known = { host_known };
 
     fn direction() -> Direction
@@ -73,8 +82,9 @@ impl<'a> Parsed<'a> for HostFrame<'a> {
         Direction::FromHost
     }
 
-    fn with(code: u8, payload: &'a [u8]) -> Option<HostFrame<'a>>
-        ensures { option_map host_shows result ≡ shown_of FromHost code payload.now }
+    fn with(_address: Address, code: u8, payload: &'a [u8]) -> Option<HostFrame<'a>>
+        ensures shows { option_map host_shows result ≡ shown_of FromHost code payload.now }
+        ensures suits { IfSome result (host_suits _address) }
     {
         match code {
             0 => Some(HostFrame::Information(payload)),
@@ -106,6 +116,8 @@ impl<'a> Parsed<'a> for TncFrame<'a> {
 
     ghost shows = { tnc_shows };
 
+    ghost suits = { tnc_suits };
+
     ghost known = { tnc_known };
 
     fn direction() -> Direction
@@ -114,18 +126,20 @@ impl<'a> Parsed<'a> for TncFrame<'a> {
         Direction::FromTnc
     }
 
-    fn with(code: u8, payload: &'a [u8]) -> Option<TncFrame<'a>>
-        ensures { option_map tnc_shows result ≡ shown_of FromTnc code payload.now }
+    fn with(address: Address, code: u8, payload: &'a [u8]) -> Option<TncFrame<'a>>
+        ensures shows { option_map tnc_shows result ≡ shown_of FromTnc code payload.now }
+        ensures suits { IfSome result (tnc_suits address) }
     {
-        match code {
-            0 => Some(TncFrame::Success),
-            1 => Some(TncFrame::Message(payload)),
-            2 => Some(TncFrame::Failure(payload)),
-            3 => Some(TncFrame::Status(payload)),
-            4 => Some(TncFrame::HeaderAlone(payload)),
-            5 => Some(TncFrame::HeaderFirst(payload)),
-            6 => Some(TncFrame::Monitored(payload)),
-            7 => Some(TncFrame::Information(payload)),
+        match (code, address) {
+            (0, _) => Some(TncFrame::Success),
+            (1, Address::Channel(_)) => Some(TncFrame::Message(payload)),
+            (1, Address::General) => Some(TncFrame::List(payload)),
+            (2, _) => Some(TncFrame::Failure(payload)),
+            (3, _) => Some(TncFrame::Status(payload)),
+            (4, _) => Some(TncFrame::HeaderAlone(payload)),
+            (5, _) => Some(TncFrame::HeaderFirst(payload)),
+            (6, _) => Some(TncFrame::Monitored(payload)),
+            (7, _) => Some(TncFrame::Information(payload)),
             _ => None,
         }
     }
@@ -135,7 +149,7 @@ impl<'a> Parsed<'a> for TncFrame<'a> {
     {
         match self {
             TncFrame::Success => 0,
-            TncFrame::Message(_) => 1,
+            TncFrame::Message(_) | TncFrame::List(_) => 1,
             TncFrame::Failure(_) => 2,
             TncFrame::Status(_) => 3,
             TncFrame::HeaderAlone(_) => 4,
@@ -151,6 +165,7 @@ impl<'a> Parsed<'a> for TncFrame<'a> {
         match self {
             TncFrame::Success => &[],
             TncFrame::Message(text)
+            | TncFrame::List(text)
             | TncFrame::Failure(text)
             | TncFrame::Status(text)
             | TncFrame::HeaderAlone(text)
@@ -160,16 +175,17 @@ impl<'a> Parsed<'a> for TncFrame<'a> {
     }
 }
 
-/// Reads a body; none unless it is that of a frame of the direction.
-pub fn read<'a, F: Parsed<'a>>(body: &'a [u8]) -> Option<F>
-    ensures reads { Reads F.direction body.now (option_map F.shows result) }
-    ensures built { Built F.direction body.now (option_map F.shows result) }
+/// Reads a body: its head and its frame, or none where it is that of no frame of the direction.
+pub fn read<'a, F: Parsed<'a>>(body: &'a [u8]) -> Option<(Head, F)>
+    ensures reads { IsReadAs F.direction body.now (option_map (λ r. framed r.0 (F.shows r.1)) result) }
+    ensures suits { IfSome result (λ r. F.suits r.0.address r.1) }
 {
     let [channel, code, rest @ ..] = body else {
         return None;
     };
-    let _ = Address::of(*channel)?;
+    let head = Head::of(*channel, *code)?;
     let code = code & 0x3f;
     let payload = Form::of(F::direction(), code)?.payload(rest)?;
-    F::with(code, payload)
+    let frame = F::with(head.address, code, payload)?;
+    Some((head, frame))
 }

@@ -1,9 +1,8 @@
 // The head of a frame: whom it is for, the reset flag and the toggle.
 ghost use Rattle.std.specs.Prelude.{◌≡◌, MatchOption};
-ghost use Rattle.frame.specs.Frame.{ChannelByte, Frame, Body};
-ghost use Rattle.frame.specs.Head.{byte_of, NoHead, HeadIn, HeadOf};
+ghost use Rattle.frame.specs.Frame.{ChannelByte};
+ghost use Rattle.frame.specs.Head.{byte_of, IsHeadOf};
 
-use crate::form::Direction;
 use poll::channel::Channel;
 
 /// The channel byte of the general poll.
@@ -48,17 +47,12 @@ impl Address {
 }
 
 impl Head {
-    // Of a part of the bytes, and with no error but that there is none: so an Option, and no `TryFrom`.
-    /// The head of a body; none where it is shorter than a head, or its channel byte is none.
-    pub fn of(body: &[u8]) -> Option<Head>
-        ensures reads { MatchOption result (NoHead body.now) (λ h. HeadIn body.now h) }
-        ensures built { (d : Direction) (f : Frame) → Body d body.now f → MatchOption result ⊥ (λ h. HeadOf f h) }
+    // The head that a channel byte and a code byte make; none where the one is no channel byte.
+    pub(crate) fn of(channel: u8, code: u8) -> Option<Head>
+        ensures { MatchOption result (ChannelByte channel → ⊥) (IsHeadOf channel code) }
     {
-        let [channel, code, ..] = body else {
-            return None;
-        };
         Some(Head {
-            address: Address::of(*channel)?,
+            address: Address::of(channel)?,
             reset: code & 0x40 != 0,
             toggle: code & 0x80 != 0,
         })

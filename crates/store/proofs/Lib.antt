@@ -3,5 +3,4 @@ pub mod Totals
 pub mod Ways
 pub mod Places
 pub mod Arrivals
-pub mod Drained
 pub mod Laws

@@ -5,7 +5,7 @@ use Rattle.store.specs.declared.refusal.Refusal.TheVariants.{Full}
 use Rattle.poll.specs.Channel.{last_channel}
 use Rattle.frame.specs.Frame.{longest_block}
 use Rattle.store.specs.Meaning.{Block, Meaning, with_channel, total}
-use Rattle.store.specs.Rules.{if_granted, put_answer, put_after, joined, first_answer, first_waiting, copy_source, granted, drop_answer, drop_after, shortened}
+use Rattle.store.specs.Rules.{if_granted, put_answer, put_after, joined, first_answer, first_waiting, granted, drop_answer, drop_after, shortened}
 
 pub put_goes :
     (m : Meaning) (c : ℕ) (b : Block)
@@ -38,10 +38,6 @@ put_stays m c b low some short full =
 -- a channel whose first block is b
 pub first_goes : (m : Meaning) (c : ℕ) (b : Block) (bs : List Block) → c ≤ last_channel → m.waiting c ≡ b ∷ bs → first_waiting m c ≡ Ok b
 first_goes m c b bs low e = cond-false _ _ _ (le-ltb last_channel c low) ∙ ap first_answer e
-
-pub copy_goes :
-    (m : Meaning) (c n : ℕ) (b : Block) (bs : List Block) → longest_block ≤ n → c ≤ last_channel → m.waiting c ≡ b ∷ bs → copy_source m c n ≡ Ok b
-copy_goes m c n b bs big low e = cond-false _ _ _ (le-ltb n longest_block big) ∙ first_goes m c b bs low e
 
 pub drop_goes :
     (m : Meaning) (c : ℕ) (b : Block) (bs : List Block) → c ≤ last_channel → m.waiting c ≡ b ∷ bs → (drop_answer m c ≡ Ok tt) × (drop_after m c ≡ with_channel m c bs)

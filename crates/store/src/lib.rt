@@ -10,7 +10,6 @@ ghost use Rattle.store.specs.Rules.{put_answer, put_after, copy_source, length_o
 use crate::refusal::Refusal;
 
 pub mod checks;
-pub mod drain;
 pub mod play;
 pub mod refusal;
 

@@ -12,7 +12,6 @@ ghost use Rattle.strip.specs.Shown.{area_of, records, shown, FirstOn};
 
 use crate::bytes::write;
 use crate::records::{Record, Records};
-use crate::refusal::{AreaRefusal, check};
 use crate::{HEAD, RECORD, Strip};
 use store::refusal::Refusal;
 use store::{Store, checks};
@@ -30,15 +29,6 @@ impl<'a> Strip<'a> {
             used: 0,
             held: 0,
         }
-    }
-
-    /// An empty strip in the area, or the refusal, 17, where none can be made of it. The rest is as of `new`.
-    pub fn over(area: &'a mut [u8]) -> Result<Strip<'a>, AreaRefusal>
-        ensures strip { MatchResult result (λ s. (check_answer (length area.old) ≡ Ok tt) × (shown s ≡ empty (limit_of (length area.old))) × (area_of s ≡ area.old)) (λ e. check_answer (length area.old) ≡ Err e) }
-        ensures laws { StoreLaws }
-    {
-        check(area)?;
-        Ok(Strip::new(area))
     }
 
     // The records, first to last.
