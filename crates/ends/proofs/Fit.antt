@@ -1,5 +1,7 @@
 -- Frames that can be sent: each has a body, and that body is read as the frame that it was made of.
-use Rattle.std.proofs.Common.{◌≡◌, ◌-◌, ℕ, zero, suc, ◌<◌, ◌≤◌, Bool, true, false, cond, not, ◌&&◌, eqb, leb, List, [], ◌∷◌, ◌++◌, length, get_or, take, drop, set, replicate, Some, Option, sym, refl, ap, ◌∙◌, arith, length-set}
+use Rattle.std.proofs.Common.{◌≡◌, ◌-◌, ℕ, zero, suc, ◌<◌, ◌≤◌, Bool, true, false, cond, not, ◌&&◌, eqb, leb, List, [], ◌∷◌, ◌++◌, length, get_or, take, drop, set, replicate, Some, None, Option, sym, refl, ap, ◌∙◌, arith, length-set}
+use Rattle.std.proofs.Math.Logic.{∥∥₁_elim}
+use Rattle.std.proofs.lemmas.Option.{none-some}
 use Rattle.std.proofs.lemmas.List.{take_at, get_or-set_other, get_or-replicate, length_push, nil_from_length}
 use Rattle.std.proofs.lemmas.Bool.{false≢true, not-true, not_from_false, leb-true, le-leb, eqb-false, ne_eqb, and_parts, and_from, cond-false}
 use Rattle.poll.specs.Channel.{last_channel, channels}
@@ -10,11 +12,11 @@ use Rattle.frame.specs.declared.form.Direction.{Direction}
 use Rattle.frame.specs.declared.form.Direction.TheVariants.{FromHost, FromTnc}
 use Rattle.frame.specs.declared.form.Form.{Form}
 use Rattle.frame.specs.declared.form.Form.TheVariants.{Bare, Text, Counted}
-use Rattle.frame.specs.Frame.{Frame, Body, ChannelByte, Carries, carried, body_of, form_of, code_byte_of, reset_in, toggle_in}
-use Rattle.frame.proofs.Bits.{reset_in_byte, toggle_in_byte}
-use Rattle.frame.proofs.Bodies.{known_code, code_read, form_read, rest_read, channel_read}
+use Rattle.frame.specs.Frame.{Frame, Body, ChannelByte, Carries, carried, body_of, form_of, IsReadAs}
+use Rattle.frame.proofs.Bodies.{code_read, form_read, rest_read, channel_read, reset_read, toggle_read}
 use Rattle.store.specs.Meaning.{Block, Meaning}
 use Rattle.ends.specs.Frames.{Load, poll, information, command, Request, Reply, success, message, failure, block, other, Answer, load_code, load_payload, request_frame, load_in, request_of, reply_code, reply_payload, answer_frame, reply_in, answer_of, request_body, answer_body, uncarried, payload_by, frame_read, request_read, answer_read, member, is_good}
+use Rattle.ends.specs.Line.{FrameIn}
 use Rattle.ends.specs.Tnc.{is_some, waiting_to, list_for}
 
 -- WHAT CAN BE SENT
@@ -176,17 +178,20 @@ uncarried_carried Counted p h = refl
 
 pub frame_read_is : (d : Direction) (body : List ℕ) (f : Frame) → Body d body f → frame_read d body ≡ f
 frame_read_is d body f b =
-    let byte : get_or body 1 0 ≡ code_byte_of f.code f.reset f.toggle = ap (λ (l : List ℕ). get_or l 1 0) b.bytes_are in
-    let small : f.code < 64 = omega (arith, known_code d f.code b.form b.sendable.known) in
     let channel = channel_read d body f b in
     let code = code_read d body f b in
-    let reset = ap reset_in byte ∙ reset_in_byte f.code f.reset f.toggle small in
-    let toggle = ap toggle_in byte ∙ toggle_in_byte f.code f.reset f.toggle small in
+    let reset = reset_read d body f b in
+    let toggle = toggle_read d body f b in
     let payload =
     ap (λ (o : Option Form). payload_by o (drop 2 body)) (form_read d body f b)
     ∙ ap (uncarried b.form) (rest_read d body f b)
     ∙ uncarried_carried b.form f.payload b.sendable.carries in
     λ i. record { channel = channel i; code = code i; reset = reset i; toggle = toggle i; payload = payload i }
+
+-- a frame's body is read as its frame
+pub read_whole : (d : Direction) (body : List ℕ) (o : Option Frame) → ∥ FrameIn d body ∥₁ → IsReadAs d body o → o ≡ Some (frame_read d body)
+read_whole d body None is reads = absurd (∥∥₁_elim is (hlevel) (λ x. none-some x.0 ((reads x.0).0 x.1)))
+read_whole d body (Some f) is reads = ap (λ (x : Frame). Some x) (sym (frame_read_is d body f ((reads f).1 refl)))
 
 pub request_trip : (q : Request) → FitRequest q → request_read (request_body q) ≡ q
 request_trip q f =

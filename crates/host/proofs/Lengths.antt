@@ -1,6 +1,7 @@
 -- Open, step and timer: what they do in a run, and what they wrote, by what they answered.
-use Rattle.std.proofs.Common.{◌≡◌, ℕ, Bool, true, false, cond, Ok, Err, nat_lt, refl, sym, ap, ◌∙◌}
+use Rattle.std.proofs.Common.{◌≡◌, ◌≤◌, ℕ, Bool, true, false, cond, Ok, Err, nat_lt, refl, sym, ap, ◌∙◌}
 use Rattle.std.specs.Result.{result_unwrap_or}
+use Rattle.std.proofs.lemmas.Bool.{cond-false, le-ltb}
 use Rattle.wire.specs.Wire.{longest_wire}
 use Rattle.store.specs.Meaning.{Meaning}
 use Rattle.ends.specs.declared.refusal.Refusal.{Refusal}
@@ -104,3 +105,6 @@ module _ (size : ℕ) (h : Host) (out inn : Meaning) where
 
   pub timer_sent : timer_length (timer_answer h size) ≡ length_written request_body (timer_call size h out inn).wrote
   timer_sent = timed_by (timer_rule h.setting h.state) h.state refl (fall_by RepeatsUsed (loss_word h)) (no_new h.setting h.state)
+
+  pub sent_once_more : longest_wire ≤ size → timer_rule h.setting h.state ≡ sends_again → timer_call size h out inn ≡ by_timer sends_again h out inn
+  sent_once_more wide rule = cond-false _ _ _ (le-ltb size longest_wire wide) ∙ ap (λ (r : Sending). by_timer r h out inn) rule

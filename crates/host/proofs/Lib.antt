@@ -2,9 +2,8 @@
 mod Requests
 mod Picks
 mod Lists
-mod InSequence
 mod Confirming
-mod Hearing
+mod Rules
 mod Lengths
 mod Acts
 mod Laws

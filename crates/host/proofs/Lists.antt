@@ -1,14 +1,13 @@
 -- A poll list as it is read is the list that the rules take.
-use Rattle.std.proofs.Common.{◌≡◌, ℕ, pred, ◌+◌, true, false, List, [], ◌∷◌, map, Some, None, Option, sym, refl, ap, ◌∙◌, arith, Bor, MatchOption}
-use Rattle.std.proofs.lemmas.Bool.{false_from_ne_true}
+use Rattle.std.proofs.Common.{◌≡◌, if◌then◌else◌, ℕ, pred, ◌+◌, List, [], ◌∷◌, map, sym, refl, ap, ◌∙◌, arith}
+use Rattle.std.proofs.lemmas.Bool.{cond-true, cond-false, false_from_ne_true}
 use Rattle.poll.specs.List.{GoodList, polled}
 use Rattle.poll.specs.declared.list.PollList.{PollList}
-use Rattle.frame.specs.declared.frames.TncFrame.{TncFrame}
-use Rattle.frame.specs.declared.frames.TncFrame.TheVariants as tnc
-use Rattle.ends.specs.Frames.{is_good, listed_channels}
-use Rattle.ends.specs.Host.{is_good_list, list_in}
+use Rattle.store.specs.Meaning.{Meaning}
+use Rattle.ends.specs.Frames.{Answer, is_good, listed_channels}
+use Rattle.ends.specs.Host.{HostRule, list_in}
 use Rattle.ends.proofs.Fit.{is_good_holds, good_is}
-use Rattle.host.specs.Met.{reply_shown}
+use Rattle.host.specs.Rule.{Carries}
 
 same_list : (xs : List ℕ) → listed_channels (map (λ (c : ℕ). c + 1) xs) ≡ xs
 same_list [] = refl
@@ -19,17 +18,14 @@ same_list (x ∷ xs) =
 list_is : (text : List ℕ) (l : PollList) → map (λ (c : ℕ). c + 1) (polled l) ≡ text → polled l ≡ listed_channels text
 list_is text l e = sym (same_list (polled l)) ∙ ap listed_channels e
 
-not_good : (text : List ℕ) → (GoodList text → ⊥) → is_good text ≡ false
-not_good text bad = false_from_ne_true (is_good text) (λ e. bad (good_is text e))
+-- the list of an answer that carries the text
+pub list_of : (text : List ℕ) (l : PollList) → map (λ (c : ℕ). c + 1) (polled l) ≡ text → (a : Answer) → Carries text a → polled l ≡ list_in a.reply
+list_of text l e a carries = list_is text l e ∙ sym (ap list_in carries)
 
--- what is read of a message is its list, where it is good
-pub list_read :
-    (f : TncFrame) (text : Bor (List ℕ)) (r : Option PollList)
-    → f ≡ tnc.Message text
-    → MatchOption r (GoodList text.now → ⊥) (λ l. GoodList text.now × (map (λ (c : ℕ). c + 1) (polled l) ≡ text.now))
-    → MatchOption r (is_good_list (reply_shown f) ≡ false) (λ l. (is_good_list (reply_shown f) ≡ true) × (polled l ≡ list_in (reply_shown f)))
-list_read f text None is e = ap (λ (x : TncFrame). is_good_list (reply_shown x)) is ∙ not_good text.now e
-list_read f text (Some l) is e = (
-  ap (λ (x : TncFrame). is_good_list (reply_shown x)) is ∙ is_good_holds text.now e.0,
-  list_is text.now l e.1 ∙ sym (ap (λ (x : TncFrame). list_in (reply_shown x)) is),
-)
+-- the rule of a good list, and of one that is not
+module _ (inn : Meaning) (text : List ℕ) (good bad : HostRule) where
+  pub by_good : GoodList text → good ≡ (if is_good text then good else bad)
+  by_good g = sym (cond-true _ _ _ (is_good_holds text g))
+
+  pub by_bad : (GoodList text → ⊥) → bad ≡ (if is_good text then good else bad)
+  by_bad none = sym (cond-false _ _ _ (false_from_ne_true (is_good text) (λ e. none (good_is text e))))

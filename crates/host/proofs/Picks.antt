@@ -14,7 +14,7 @@ use Rattle.ends.specs.Frames.{Request}
 use Rattle.ends.specs.Kept.{block_of, first_of}
 use Rattle.ends.specs.Host.{Pick, general_poll, send_block_of, or_else, lowest_below, pick, request_for}
 use Rattle.host.specs.declared.answer.StepRule.TheVariants as step
-use Rattle.host.specs.Sent.{block_request}
+use Rattle.host.specs.Asked.{block_request}
 use Rattle.host.specs.Picked.{LowestIs}
 use Rattle.host.specs.Answers.{step_rule_of}
 

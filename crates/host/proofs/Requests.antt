@@ -11,7 +11,7 @@ use Rattle.frame.specs.Frame.{Frame, Body, ChannelByte, Carries, body_of}
 use Rattle.frame.specs.Head.{byte_of, framed}
 use Rattle.frame.specs.Kinds.{host_shows}
 use Rattle.ends.specs.Frames.{Request, load_code, load_payload, request_body, request_frame}
-use Rattle.host.specs.Sent.{load_shows}
+use Rattle.host.specs.Asked.{load_shows}
 
 address_fits : (a : Address) → ChannelByte (byte_of a)
 address_fits (Channel c) = inl c.within

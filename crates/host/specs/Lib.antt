@@ -1,9 +1,10 @@
 -- The definitions that the contracts on the host end cite.
-pub mod Sent
+pub mod Asked
 pub mod Cause
+pub mod StepRule
 pub mod Model
 pub mod Picked
-pub mod Met
+pub mod Rule
 pub mod Left
 pub mod Answers
 pub mod Hear

@@ -6,7 +6,7 @@ use Rattle.store.specs.Meaning.{Block, Meaning}
 use Rattle.ends.specs.Host as model
 use Rattle.ends.specs.Host.{lowest_below, general_poll, send_block_of, pick, next_request}
 use Rattle.host.specs.declared.host.stepping.Picked.{Picked}
-use Rattle.host.specs.Sent.{asked_request}
+use Rattle.host.specs.Asked.{asked_request}
 use Rattle.host.specs.Answers.{step_rule_of}
 
 -- the lowest channel that has a block, if one has

@@ -2,6 +2,7 @@
 ghost use Rattle.std.specs.Prelude.{◌≡◌};
 ghost use Rattle.ends.specs.Named.{went_by};
 ghost use Rattle.host.specs.Cause.{cause_number};
+ghost use Rattle.host.specs.StepRule.{step_rule_number};
 ghost use Rattle.host.specs.Answers.{doubt_word, rule_word, timed_is, timed_length};
 
 use crate::note::DoubtNote;
@@ -35,16 +36,25 @@ pub struct Fall {
     pub doubt: Option<DoubtNote>,
 }
 
-/// What a step sent.
+/// What a step sent. Each choice has its number: the first that applies is taken.
 #[derive(Clone, Copy, PartialEq, Eq, Debug)]
 pub enum StepRule {
     /// A general poll, since the last answer taken refused a block.
-    PollAfterRefusal,
+    PollAfterRefusal = 1,
     /// A poll of the first channel left on the list.
-    ChannelPoll,
+    ChannelPoll = 2,
     /// A block, the first that waits on the lowest channel where any does.
-    Block,
-    GeneralPoll,
+    Block = 3,
+    GeneralPoll = 4,
+}
+
+impl StepRule {
+    /// The number of the choice.
+    pub fn number(self) -> u8
+        ensures { result ≡ step_rule_number self }
+    {
+        self as u8
+    }
 }
 
 /// A step: what it sent, and the length of the wire form.

@@ -3,32 +3,38 @@ ghost use Rattle.std.specs.Prelude.{◌≡◌, ◌≤◌, true};
 ghost use Rattle.ends.specs.Limits.{most_repeats};
 ghost use Rattle.ends.specs.Ear.{heard_by, hears_tnc};
 
-use crate::sent::Sent;
+use crate::asked::Asked;
 use ends::counts::Counts;
 use ends::ear::Ear;
 use poll::list::PollList;
 
+pub mod apply;
 pub mod falling;
-pub mod following;
 pub mod hearing;
 pub mod making;
-pub mod met;
 pub mod opening;
-pub mod reading;
+pub mod rule;
 pub mod stepping;
 pub mod submitting;
 pub mod timing;
 
 /// Where the host stands.
-#[derive(Clone, Copy)]
+#[derive(Drop)]
 pub enum State {
     Fresh,
     /// The reset is on its way; so many repeats since that open.
-    Opening(u8),
+    Opening { repeats: u8 },
     Idle,
-    /// One frame is unanswered; so many repeats.
-    OnItsWay(u8),
+    /// A frame that asks this is unanswered.
+    OnItsWay(Asked, Sent),
     Down,
+}
+
+/// How the frame on its way was sent: its toggle, and how often it was repeated.
+#[derive(Clone, Copy)]
+pub struct Sent {
+    toggle: bool,
+    repeats: u8,
 }
 
 /// The link as the host keeps it: all but what it hears with.
@@ -50,9 +56,6 @@ pub struct Link {
     // whether the last answer taken refused a block
     refused: bool,
     counts: Counts,
-    // the frame on its way, if the state is that one is. It is not in that case: `State` is copied and handed out, and a frame
-    // with its block can't be copied; a second enum of the same five cases, to hold it, would be no plainer.
-    sent: Sent,
     ghost few: { setting ≤ most_repeats },
 }
 

@@ -2,6 +2,6 @@
 #![tactic(auto)]
 
 pub mod answer;
+pub mod asked;
 pub mod host;
 pub mod note;
-pub mod sent;

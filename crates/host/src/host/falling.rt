@@ -9,8 +9,8 @@ ghost use Rattle.host.specs.Answers.{fall_by, doubt_word};
 
 use super::{Link, State};
 use crate::answer::{Cause, Fall};
+use crate::asked::Asked;
 use crate::note::DoubtNote;
-use crate::sent::Asked;
 use poll::channel::Channel;
 use store::Store;
 
@@ -19,12 +19,13 @@ impl Link {
     pub(crate) fn aboard(&self) -> Option<Channel>
         ensures { MatchOption result (aboard (host_of self.now).state ≡ empty) (λ c. ((b : Block) × (aboard (host_of self.now).state ≡ holds b)) × (aboard_on (host_of self.now).state ≡ c.number)) }
     {
-        match self.state {
-            State::OnItsWay(_) => match &self.sent.asked {
-                Asked::Block(channel, _) => Some(*channel),
-                Asked::GeneralPoll | Asked::ChannelPoll(_) => None,
-            },
-            State::Fresh | State::Opening(_) | State::Idle | State::Down => None,
+        match &self.state {
+            State::OnItsWay(Asked::Block(channel, _), _) => Some(*channel),
+            State::OnItsWay(Asked::GeneralPoll | Asked::ChannelPoll(_), _)
+            | State::Fresh
+            | State::Opening { .. }
+            | State::Idle
+            | State::Down => None,
         }
     }
 

@@ -1,5 +1,6 @@
 // Hearing a byte.
 ghost use Rattle.std.specs.Prelude.{◌≡◌, ℕ, []};
+ghost use Rattle.frame.specs.Kinds.{tnc_suits};
 ghost use Rattle.reader.specs.Read.{hears};
 ghost use Rattle.ends.specs.Ear.{heard_by};
 ghost use Rattle.ends.specs.Host.{hear_step};
@@ -7,15 +8,16 @@ ghost use Rattle.host.specs.Model.{host_of};
 ghost use Rattle.law.specs.Runs.{naming, host_hear};
 ghost use Rattle.law.specs.Sides.{HostLaw, unchanged};
 ghost use Rattle.host.specs.Left.{Stands};
-ghost use Rattle.host.specs.Met.{answer_shown};
+ghost use Rattle.host.specs.Rule.{answer_shown};
 ghost use Rattle.host.specs.Answers.{heard_word, byte_word};
 ghost use Rattle.host.specs.Hear.{answer_heard, hear_call, hear_answer};
 ghost use Rattle.host.specs.Side.{side};
 
-use super::reading::Answer;
 use super::{Host, Link};
 use crate::answer::Heard;
 use ends::refusal::Refusal;
+use frame::frames::TncFrame;
+use frame::head::Head;
 use reader::state::Heard as Read;
 use store::Store;
 
@@ -54,8 +56,8 @@ impl Host {
     {
         match self.ear.hear(byte)? {
             Read::More => Ok(None),
-            Read::Frame => match self.ear.body() {
-                Some(body) => self.link.hear(out, inn, Answer::of(body)).map(Some),
+            Read::Frame => match self.ear.frame() {
+                Some((head, frame)) => Ok(Some(self.link.hear(out, inn, head, frame)?)),
                 None => Ok(None),
             },
         }
@@ -63,18 +65,20 @@ impl Host {
 }
 
 impl Link {
-    // Follows the rule that a frame meets.
+    // Finds the rule that a frame meets, and then does what it says.
     fn hear<O: Store, I: Store>(
         &mut self,
         out: &mut O,
         inn: &mut I,
-        answer: Answer,
+        head: Head,
+        frame: TncFrame,
     ) -> Result<Heard, Refusal>
-        ensures answered { result ≡ answer_heard (host_of self.old) (O.Store.meaning out.old) (I.Store.meaning inn.old) (answer_shown answer.entry) }
-        ensures named { heard_word result ≡ (hear_step (host_of self.old) (O.Store.meaning out.old) (I.Store.meaning inn.old) (answer_shown answer.entry)).word }
-        ensures after { Stands (hear_step (host_of self.old) (O.Store.meaning out.old) (I.Store.meaning inn.old) (answer_shown answer.entry)) (host_of self.new) (O.Store.meaning out.new) (I.Store.meaning inn.new) }
+        requires { tnc_suits head.address frame }
+        ensures answered { result ≡ answer_heard (host_of self.old) (O.Store.meaning out.old) (I.Store.meaning inn.old) (answer_shown head frame.entry) }
+        ensures named { heard_word result ≡ (hear_step (host_of self.old) (O.Store.meaning out.old) (I.Store.meaning inn.old) (answer_shown head frame.entry)).word }
+        ensures after { Stands (hear_step (host_of self.old) (O.Store.meaning out.old) (I.Store.meaning inn.old) (answer_shown head frame.entry)) (host_of self.new) (O.Store.meaning out.new) (I.Store.meaning inn.new) }
     {
-        let met = self.met(inn, answer);
-        self.follow(out, answer.head.toggle, met)
+        let rule = self.rule(head, frame);
+        self.apply(out, inn, head.toggle, rule)
     }
 }

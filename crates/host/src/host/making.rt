@@ -1,19 +1,11 @@
 // How a host is made, and what it is asked.
 ghost use Rattle.std.specs.Prelude.{◌≡◌, ◌<◌, ◌-◌, MatchResult};
-ghost use Rattle.reader.specs.Read.{fresh};
 ghost use Rattle.ends.specs.declared.refusal.Refusal.TheVariants.{ManyRepeats};
 ghost use Rattle.ends.specs.Limits.{most_repeats};
-ghost use Rattle.ends.specs.Ear.{heard_by};
-ghost use Rattle.ends.specs.Counts.{submitted_of, gone_of};
-ghost use Rattle.ends.specs.Host.{new_host};
-ghost use Rattle.store.specs.Meaning.{empty};
-ghost use Rattle.law.specs.Runs.{Limits, begin};
-ghost use Rattle.law.specs.Sides.{host_side};
 ghost use Rattle.host.specs.Model.{host_of};
-ghost use Rattle.host.specs.Side.{side};
+ghost use Rattle.host.specs.Side.{IsNew};
 
 use super::{Host, Link, State};
-use crate::sent::{Asked, Sent};
 use ends::counts::Counts;
 use ends::ear::Ear;
 use ends::refusal::Refusal;
@@ -26,7 +18,8 @@ pub const MOST_REPEATS: u8 = 15;
 impl Host {
     /// A fresh host that repeats a frame as often as set; refuses 18 above 15.
     pub fn new(repeats: u8) -> Result<Host, Refusal>
-        ensures { MatchResult result (λ h. (host_of h.link ≡ new_host repeats) × (heard_by h.ear ≡ fresh Direction.FromTnc) × ((l : Limits) → host_side (begin repeats l) ≡ side h (empty l.host_out) (empty l.host_in))) (λ e. (most_repeats < repeats) × (e ≡ ManyRepeats)) }
+        ensures { MatchResult result (IsNew repeats)
+            (λ e. (most_repeats < repeats) × (e ≡ ManyRepeats)) }
     {
         if repeats > MOST_REPEATS {
             return Err(Refusal::ManyRepeats);
@@ -43,11 +36,6 @@ impl Host {
                 list: PollList::empty(),
                 refused: false,
                 counts: Counts::new(),
-                sent: Sent {
-                    asked: Asked::GeneralPoll,
-                    reset: false,
-                    toggle: false,
-                },
             },
         })
     }
@@ -60,10 +48,10 @@ impl Host {
     }
 
     /// Where the host stands.
-    pub fn state(&self) -> State
-        ensures { result ≡ self.now.link.state }
+    pub fn state(&self) -> &State
+        ensures { result.now ≡ self.now.link.state }
     {
-        self.link.state
+        &self.link.state
     }
 
     /// How many frames out of sequence may still come before the link goes down.

@@ -11,7 +11,7 @@ ghost use Rattle.host.specs.Answers.{open_answer};
 ghost use Rattle.host.specs.Side.{side};
 
 use super::{Host, Link, State};
-use crate::sent::Sent;
+use crate::asked::Asked;
 use ends::refusal::Refusal;
 use poll::list::PollList;
 use wire::writer::WIRE;
@@ -42,7 +42,7 @@ impl Link {
         ensures after { (out inn : Meaning) → Leaves (open_call (length wire.old) (host_of self.old) out inn) (host_of self.new) out inn wire.old wire.new }
     {
         match self.state {
-            State::Opening(_) | State::Idle | State::OnItsWay(_) => {
+            State::Opening { .. } | State::Idle | State::OnItsWay(_, _) => {
                 return Err(Refusal::WrongState);
             }
             State::Fresh | State::Down => {}
@@ -52,8 +52,8 @@ impl Link {
         }
         self.list = PollList::empty();
         self.resets = one_reset(self.resets);
-        self.state = State::Opening(0);
-        Ok(Sent::reset(self.generation).write(wire))
+        self.state = State::Opening { repeats: 0 };
+        Ok(Asked::GeneralPoll.write(true, self.generation, wire))
     }
 }
 

@@ -10,9 +10,9 @@ ghost use Rattle.host.specs.Picked.{LowestIs, PickedBy};
 ghost use Rattle.host.specs.Answers.{step_answer};
 ghost use Rattle.host.specs.Side.{side, step_length};
 
-use super::{Host, Link, State};
+use super::{Host, Link, Sent, State};
 use crate::answer::{StepRule, Stepped};
-use crate::sent::{Asked, Sent};
+use crate::asked::Asked;
 use ends::kept::KeptBlock;
 use ends::refusal::Refusal;
 use poll::channel::{Channel, LAST_CHANNEL};
@@ -52,7 +52,7 @@ impl Link {
     {
         match self.state {
             State::Idle => {}
-            State::Fresh | State::Opening(_) | State::OnItsWay(_) | State::Down => {
+            State::Fresh | State::Opening { .. } | State::OnItsWay(_, _) | State::Down => {
                 return Err(Refusal::WrongState);
             }
         }
@@ -63,16 +63,10 @@ impl Link {
         if !self.refused {
             self.list.drop_first();
         }
-        self.sent = Sent {
-            asked,
-            reset: false,
-            toggle: !self.last,
-        };
-        self.state = State::OnItsWay(0);
-        Ok(Stepped {
-            rule,
-            sent: self.sent.write(wire),
-        })
+        let toggle = !self.last;
+        let sent = asked.write(false, toggle, wire);
+        self.state = State::OnItsWay(asked, Sent { toggle, repeats: 0 });
+        Ok(Stepped { rule, sent })
     }
 
     // The first that applies.

@@ -3,5 +3,5 @@ use Rattle.std.proofs.Common.{rules}
 use Rattle.ends.specs.Kept.{block_of}
 use Rattle.host.proofs.host.Link.aboard.Goals as goal
 
-pub returns-in-Block : goal.returns-in-Block
-returns-in-Block c = ((block_of c.in-Block.field-1, search rules), search rules)
+pub returns-in-OnItsWay-Block-default : goal.returns-in-OnItsWay-Block-default
+returns-in-OnItsWay-Block-default c = ((block_of c.in-OnItsWay-Block-default.field-0-1, search rules), search rules)

@@ -1,5 +1,5 @@
 -- A confirmed block is named, leaves its store and counts as gone.
-use Rattle.std.proofs.Common.{◌≡◌, ℕ, Ok, sym, ap, ◌∙◌}
+use Rattle.std.proofs.Common.{◌≡◌, ℕ, Ok, sym, refl, ap, ◌∙◌}
 use Rattle.store.specs.Rules.{drop_after}
 use Rattle.ends.specs.Blocks.{Word, leaves, confirms, one_more_counted}
 use Rattle.ends.specs.Host as model
@@ -15,9 +15,10 @@ returns g c =
     let named = confirm_word_is h k c.requires.0 c.requires.1 in
     let number : c.count_gone-number.result ≡ one_more_counted (h.gone k) = c.count_gone-number.ensures.value ∙ ap (λ (x : model.Host). one_more_counted (x.gone k)) c.take.ensures in
     let word : confirms c.number-2.result c.count_gone-number.result ≡ model.confirm_word h = ap (λ (x : ℕ). confirms x c.count_gone-number.result) c.number-2.ensures.value ∙ ap (λ (x : ℕ). confirms k x) number ∙ sym named in
-    record {
-      host_is = λ ch reset reply inn l. counted h (host_of c.take.new.self) h.poll_list c.args.toggle _ _ k c.take.ensures c.count_gone-number.ensures.submitted c.count_gone-number.ensures.gone c.requires.0 c.requires.1;
-      out_is = λ ch reset reply inn. c.drop_first.ensures.after ∙ ap (λ (x : ℕ). drop_after (g.O.Store.meaning c.args.out.now) x) c.number.ensures.value ∙ ap (λ (w : Word). leaves w (g.O.Store.meaning c.args.out.now)) (sym named);
-      word_is = λ ch reset reply inn. word;
-      answer_is = λ ch reset reply inn. ap (λ (w : Word). Ok (confirmed_by w)) word;
+    λ inn ch reset reply brings. record {
+      host_is = counted h (host_of c.take.new.self) h.poll_list c.args.toggle _ _ k c.take.ensures c.count_gone-number.ensures.submitted c.count_gone-number.ensures.gone c.requires.0 c.requires.1;
+      out_is = c.drop_first.ensures.after ∙ ap (λ (x : ℕ). drop_after (g.O.Store.meaning c.args.out.now) x) c.number.ensures.value ∙ ap (λ (w : Word). leaves w (g.O.Store.meaning c.args.out.now)) (sym named);
+      inn_is = refl;
+      word_is = word;
+      answer_is = ap (λ (w : Word). Ok (confirmed_by w)) word;
     }

@@ -2,7 +2,7 @@
 use Rattle.std.proofs.Common.{Bool, false, not, sym, ap, ◌∙◌}
 use Rattle.ends.specs.Host.{request_for}
 use Rattle.ends.specs.Kept.{block_of}
-use Rattle.host.specs.Sent.{block_request}
+use Rattle.host.specs.Asked.{block_request}
 use Rattle.host.specs.Model.{host_of}
 use Rattle.host.specs.Answers.{step_rule_of}
 use Rattle.host.proofs.Picks.{first_kept, sends_block, pick_lowest}

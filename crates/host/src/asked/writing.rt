@@ -7,10 +7,9 @@ ghost use Rattle.frame.specs.Kinds.{host_shows};
 ghost use Rattle.wire.specs.Wire.{longest_wire};
 ghost use Rattle.ends.specs.Sent.{over_wire, request_length};
 ghost use Rattle.ends.specs.Frames.{request_body};
-ghost use Rattle.ends.specs.Host.{reset_request};
-ghost use Rattle.host.specs.Sent.{asked_channel, asked_load, load_shows, sent_request};
+ghost use Rattle.host.specs.Asked.{asked_channel, asked_load, asked_request, load_shows};
 
-use super::{Asked, Sent};
+use super::Asked;
 use frame::frames::HostFrame;
 use frame::head::{Address, Head};
 use wire::writer::write;
@@ -39,33 +38,20 @@ impl Asked {
             Asked::Block(_, block) => HostFrame::Information(block.bytes()),
         }
     }
-}
 
-impl Sent {
-    /// The reset of a generation: the flagged general poll.
-    pub(crate) fn reset(generation: bool) -> Sent
-        ensures { sent_request result ≡ reset_request generation }
-    {
-        Sent {
-            asked: Asked::GeneralPoll,
-            reset: true,
-            toggle: generation,
-        }
-    }
-
-    /// Writes the frame, and answers the length of its wire form.
-    pub(crate) fn write(&self, wire: &mut [u8]) -> usize
+    /// Writes the frame with this reset flag and toggle, and answers the length of its wire form.
+    pub(crate) fn write(&self, reset: bool, toggle: bool, wire: &mut [u8]) -> usize
         requires { longest_wire ≤ length wire.old }
-        ensures value { result ≡ request_length (sent_request self.now) }
+        ensures value { result ≡ request_length (asked_request self.now reset toggle) }
         ensures bound { result ≤ length wire.old }
-        ensures wire { wire.new ≡ over_wire (request_body (sent_request self.now)) wire.old }
+        ensures wire { wire.new ≡ over_wire (request_body (asked_request self.now reset toggle)) wire.old }
     {
         let head = Head {
-            address: self.asked.address(),
-            reset: self.reset,
-            toggle: self.toggle,
+            address: self.address(),
+            reset,
+            toggle,
         };
-        let Ok(n) = write(head, self.asked.frame(), wire) else {
+        let Ok(n) = write(head, self.frame(), wire) else {
             unreachable!()
         };
         n

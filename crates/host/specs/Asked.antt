@@ -1,13 +1,12 @@
--- The request that a frame of the host is.
+-- The request that a frame of the host is, by what it asks.
 use Rattle.std.specs.Prelude.{ℕ, Bool}
 use Rattle.frame.specs.Frame.{general}
 use Rattle.frame.specs.Kinds.{Shown, shows}
 use Rattle.store.specs.Meaning.{Block}
 use Rattle.ends.specs.Frames.{Load, Request, poll, information, load_code, load_payload}
 use Rattle.ends.specs.Kept.{block_of}
-use Rattle.host.specs.declared.sent.Asked.{Asked}
-use Rattle.host.specs.declared.sent.Asked.TheVariants as asked
-use Rattle.host.specs.declared.sent.Sent.{Sent}
+use Rattle.host.specs.declared.asked.Asked.{Asked}
+use Rattle.host.specs.declared.asked.Asked.TheVariants as asked
 
 abbrev pub poll_request : ℕ → Bool → Bool → Request
 poll_request c reset toggle = record { channel = c; reset = reset; toggle = toggle; load = poll }
@@ -27,10 +26,8 @@ asked_load (asked.ChannelPoll c) = poll
 asked_load (asked.Block c k) = information (block_of k)
 
 abbrev pub asked_request : Asked → Bool → Bool → Request
-asked_request a reset toggle = record { channel = asked_channel a; reset = reset; toggle = toggle; load = asked_load a }
-
-abbrev pub sent_request : Sent → Request
-sent_request s = asked_request s.asked s.reset s.toggle
+asked_request a reset toggle =
+    record { channel = asked_channel a; reset = reset; toggle = toggle; load = asked_load a }
 
 -- a load as a parsed frame shows it
 abbrev pub load_shows : Load → Shown

@@ -1,13 +1,14 @@
 // What each rule does that a frame can meet.
 ghost use Rattle.std.specs.Prelude.{◌≡◌, Ok};
 ghost use Rattle.poll.specs.List.{polled};
+ghost use Rattle.store.specs.Meaning.{Meaning};
 ghost use Rattle.ends.specs.Blocks.{silent};
-ghost use Rattle.ends.specs.Host.{aboard, aboard_on, lowered, opened_spare, opened_with, repeats_of, taken};
+ghost use Rattle.ends.specs.Host.{lowered, opened_spare, opened_with, repeats_of, taken};
 ghost use Rattle.host.specs.Model.{host_of};
-ghost use Rattle.host.specs.Met.{Confirms, Followed};
+ghost use Rattle.host.specs.Rule.{Confirms, Applies};
 
-use super::met::Met;
-use super::{Link, State};
+use super::rule::Rule;
+use super::{Link, Sent, State};
 use crate::answer::Heard;
 use ends::name::BlockName;
 use ends::refusal::Refusal;
@@ -19,46 +20,45 @@ use store::Store;
 const LAST_SPARE: u16 = 65_535;
 
 impl Link {
-    // Does what the rule says; the toggle is that of the frame.
-    pub(crate) fn follow<O: Store>(
+    /// Does what the rule says; the toggle is that of the frame.
+    pub(crate) fn apply<O: Store, I: Store>(
         &mut self,
         out: &mut O,
+        inn: &mut I,
         toggle: bool,
-        met: Met,
+        rule: Rule,
     ) -> Result<Heard, Refusal>
-        requires { Confirms met (aboard_on (host_of self.old).state) (aboard (host_of self.old).state) }
-        ensures { Followed met toggle (host_of self.old) (host_of self.new) (O.Store.meaning out.old) (O.Store.meaning out.new) result }
+        requires { Confirms rule (host_of self.old).state }
+        ensures { Applies rule.entry toggle
+            (host_of self.old) (O.meaning out.old) (I.meaning inn.old)
+            (host_of self.new) (O.meaning out.new) (I.meaning inn.new) result }
     {
-        match met {
-            Met::Stale => Ok(Heard::Stale),
-            Met::SpareUsed => {
+        match rule {
+            Rule::Stale => Ok(Heard::Stale),
+            Rule::SpareUsed => {
                 self.spare = lower(self.spare);
                 Ok(Heard::Stale)
             }
-            Met::Opened(list) => {
+            Rule::Opened(list) => {
                 self.opened(toggle, list);
                 Ok(Heard::Opened)
             }
-            Met::Confirmed(channel) => Ok(Heard::Confirmed(self.confirm(out, toggle, channel))),
-            Met::BlockRefused => {
+            Rule::Confirmed(channel) => Ok(Heard::Confirmed(self.confirm(out, toggle, channel))),
+            Rule::BlockRefused => {
                 self.take(toggle, true);
                 Ok(Heard::BlockRefused)
             }
-            Met::NothingThere => {
+            Rule::NothingThere => {
                 self.take(toggle, false);
                 Ok(Heard::NothingThere)
             }
-            Met::Received => {
-                self.take(toggle, false);
-                Ok(Heard::Received)
-            }
-            Met::Listed(list) => {
+            Rule::Polled(channel, block) => self.receive(inn, toggle, channel, block),
+            Rule::Listed(list) => {
                 self.list = list;
                 self.take(toggle, false);
                 Ok(Heard::Listed)
             }
-            Met::NoRoom => Err(Refusal::NoRoom),
-            Met::Falls(cause) => Ok(Heard::Down(self.go_down(out, cause))),
+            Rule::Falls(cause) => Ok(Heard::Down(self.go_down(out, cause))),
         }
     }
 
@@ -77,8 +77,10 @@ impl Link {
 
     // The block on its way has arrived: it leaves its store, and counts as gone.
     fn confirm<O: Store>(&mut self, out: &mut O, toggle: bool, channel: Channel) -> BlockName
-        requires { Confirms (Met.Confirmed channel) (aboard_on (host_of self.old).state) (aboard (host_of self.old).state) }
-        ensures { Followed (Met.Confirmed channel) toggle (host_of self.old) (host_of self.new) (O.Store.meaning out.old) (O.Store.meaning out.new) (Ok (Heard.Confirmed result)) }
+        requires { Confirms (Rule.Confirmed channel) (host_of self.old).state }
+        ensures { (inn : Meaning) → Applies (Rule.Confirmed channel) toggle
+            (host_of self.old) (O.meaning out.old) inn
+            (host_of self.new) (O.meaning out.new) inn (Ok (Heard.Confirmed result)) }
     {
         self.take(toggle, false);
         let number = self.counts.count_gone(channel);
@@ -87,6 +89,25 @@ impl Link {
             channel: channel.number(),
             number,
         }
+    }
+
+    // A polled block goes into the incoming store; where that is at its limit, the frame counts as unheard.
+    fn receive<I: Store>(
+        &mut self,
+        inn: &mut I,
+        toggle: bool,
+        channel: Channel,
+        block: &[u8],
+    ) -> Result<Heard, Refusal>
+        ensures { (out : Meaning) → Applies (Rule.Polled channel block.entry) toggle
+            (host_of self.old) out (I.meaning inn.old)
+            (host_of self.new) out (I.meaning inn.new) result }
+    {
+        if inn.put(channel.number(), block).is_err() {
+            return Err(Refusal::NoRoom);
+        }
+        self.take(toggle, false);
+        Ok(Heard::Received)
     }
 
     // An answer is taken.
@@ -103,8 +124,10 @@ impl Link {
     fn repeats(&self) -> u16
         ensures { result ≡ repeats_of (host_of self.now).state }
     {
-        match self.state {
-            State::Opening(repeats) | State::OnItsWay(repeats) => u16::from(repeats),
+        match &self.state {
+            State::Opening { repeats } | State::OnItsWay(_, Sent { repeats, .. }) => {
+                u16::from(*repeats)
+            }
             State::Fresh | State::Idle | State::Down => 0,
         }
     }
