@@ -1,8 +1,8 @@
 -- The lemmas on the TNC end.
+mod Hearing
 mod Sending
 mod Waiting
 mod Rules
 mod Naming
-mod Hearing
 mod Acts
 mod Laws

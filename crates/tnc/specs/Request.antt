@@ -2,9 +2,9 @@
 use Rattle.frame.specs.Head.{byte_of}
 use Rattle.store.specs.Meaning.{plain}
 use Rattle.ends.specs.Frames.{Load, poll, information, command, Request}
-use Rattle.tnc.specs.declared.tnc.reading.Load as read
-use Rattle.tnc.specs.declared.tnc.reading.Load.TheVariants as load
-use Rattle.tnc.specs.declared.tnc.reading.Request as whole
+use Rattle.tnc.specs.declared.tnc.request.Load as read
+use Rattle.tnc.specs.declared.tnc.request.Load.TheVariants as load
+use Rattle.tnc.specs.declared.tnc.request.Request as whole
 
 abbrev pub load_shown : read.Load → Load
 load_shown load.Poll = poll

@@ -11,7 +11,7 @@ pub mod following;
 pub mod going;
 pub mod hearing;
 pub mod making;
-pub mod reading;
+pub mod request;
 pub mod storing;
 
 /// The link as the TNC keeps it: all but what it hears with.

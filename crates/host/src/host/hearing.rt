@@ -39,11 +39,11 @@ impl Host {
             (side self.new (O.Store.meaning out.new) (I.Store.meaning inn.new))
             [] (naming (byte_word result)) unchanged }
     {
-        self.byte(out, inn, byte)
+        self.hear_byte(out, inn, byte)
     }
 
     // Hears it.
-    fn byte<O: Store, I: Store>(
+    fn hear_byte<O: Store, I: Store>(
         &mut self,
         out: &mut O,
         inn: &mut I,

@@ -35,7 +35,7 @@ impl Given {
             Given::NoPlace(_) => TncFrame::Failure(b"NO PLACE"),
             Given::NoChannel => TncFrame::Failure(b"NO CHANNEL"),
             Given::Unknown(_) => TncFrame::Failure(b"UNKNOWN"),
-            Given::List(list) => TncFrame::Message(list.bytes()),
+            Given::List(list) => TncFrame::List(list.bytes()),
             Given::Block(_, block) => TncFrame::Information(block.bytes()),
         }
     }

@@ -8,7 +8,7 @@ ghost use Rattle.tnc.specs.Request.{request_shown};
 ghost use Rattle.tnc.specs.Answers.{offer_rule, take_rule, take_reply};
 ghost use Rattle.tnc.specs.Answered.{AnswersOn, AnswersTo};
 
-use super::reading::{Load, Request};
+use super::request::{Load, Request};
 use crate::answer::Rule;
 use crate::held::{Given, WaitingList};
 use ends::kept::KeptBlock;

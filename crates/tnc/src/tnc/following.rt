@@ -15,7 +15,7 @@ ghost use Rattle.tnc.specs.Answers.{heard_as, accept_rule_of, frame_answer};
 
 use super::Link;
 use super::answering::Answered;
-use super::reading::Request;
+use super::request::Request;
 use crate::answer::{Heard, Rule};
 use crate::held::{Given, Held, WaitingList};
 use ends::refusal::Refusal;

@@ -12,7 +12,7 @@ ghost use Rattle.tnc.specs.Hear.{hear_call, hear_answer};
 ghost use Rattle.tnc.specs.Side.{side, hear_length};
 
 use super::Tnc;
-use super::reading::Request;
+use super::request::Request;
 use crate::answer::Heard;
 use ends::refusal::Refusal;
 use reader::state::Heard as Read;
@@ -39,11 +39,11 @@ impl Tnc {
             (side self.new (O.Store.meaning out.new) (I.Store.meaning inn.new))
             (take (hear_length result) wire.new) (naming (byte_word result)) unchanged }
     {
-        self.byte(out, inn, byte, wire)
+        self.hear_byte(out, inn, byte, wire)
     }
 
     // Hears it.
-    fn byte<O: Store, I: Store>(
+    fn hear_byte<O: Store, I: Store>(
         &mut self,
         out: &mut O,
         inn: &mut I,
@@ -61,8 +61,11 @@ impl Tnc {
         }
         match self.ear.hear(byte)? {
             Read::More => Ok(None),
-            Read::Frame => match self.ear.body() {
-                Some(body) => self.link.hear(out, inn, Request::of(body), wire).map(Some),
+            Read::Frame => match self.ear.frame() {
+                Some((head, frame)) => {
+                    let request = Request::of(head, frame);
+                    self.link.hear(out, inn, request, wire).map(Some)
+                }
                 None => Ok(None),
             },
         }

@@ -1,13 +1,12 @@
-// A frame of the host, read from the body that passed.
+// What a frame of the host asks.
 ghost use Rattle.std.specs.Prelude.{◌≡◌};
-ghost use Rattle.frame.specs.declared.form.Direction.{Direction};
+ghost use Rattle.frame.specs.Head.{framed};
 ghost use Rattle.frame.specs.Kinds.{host_shows};
-ghost use Rattle.ends.specs.Frames.{load_in, request_read};
-ghost use Rattle.ends.specs.Line.{FrameIn};
+ghost use Rattle.ends.specs.Frames.{load_in, request_of};
 ghost use Rattle.ends.specs.Tnc.{is_general_poll};
 ghost use Rattle.tnc.specs.Request.{load_shown, request_shown};
 
-use frame::frames::{HostFrame, read};
+use frame::frames::HostFrame;
 use frame::head::{Address, Head};
 
 /// What a frame asks; its bytes are borrowed from the body.
@@ -39,17 +38,10 @@ impl<'a> Load<'a> {
 }
 
 impl<'a> Request<'a> {
-    /// Reads the body of a frame.
-    pub(crate) fn of(body: &'a [u8]) -> Request<'a>
-        requires { ∥ FrameIn Direction.FromHost body.now ∥₁ }
-        ensures { request_shown result ≡ request_read body.now }
+    /// What a frame with this head asks.
+    pub(crate) fn of(head: Head, frame: HostFrame<'a>) -> Request<'a>
+        ensures { request_shown result ≡ request_of (framed head (host_shows frame.entry)) }
     {
-        let Some(head) = Head::of(body) else {
-            unreachable!()
-        };
-        let Some(frame) = read(body) else {
-            unreachable!()
-        };
         Request {
             head,
             load: Load::of(frame),
