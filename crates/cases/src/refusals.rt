@@ -147,7 +147,7 @@ fn refusal_of<'a, F: Parsed<'a>>(
         reset: false,
         toggle: true,
     };
-    let frame = F::with(code, payload).ok_or("no such code")?;
+    let frame = F::with(head.address, code, payload).ok_or("no such code")?;
     Ok(
         write(head, frame, buffer)
             .err()

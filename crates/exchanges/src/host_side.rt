@@ -89,9 +89,9 @@ impl<O: Store + Drop, I: Store + Drop> HostSide<O, I> {
     fn tell_state(&self, told: &mut String) -> Result<(), Fail> {
         match self.host.state() {
             State::Fresh => told.push_str("; fresh")?,
-            State::Opening(repeats) => write!(told, "; opening {repeats}")?,
+            State::Opening { repeats } => write!(told, "; opening {repeats}")?,
             State::Idle => told.push_str("; idle")?,
-            State::OnItsWay(repeats) => write!(told, "; on its way {repeats}")?,
+            State::OnItsWay(_, sent) => write!(told, "; on its way {}", sent.repeats)?,
             State::Down => told.push_str("; down")?,
         }
         let spare = self.host.spare();

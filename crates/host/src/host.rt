@@ -33,8 +33,8 @@ pub enum State {
 /// How the frame on its way was sent: its toggle, and how often it was repeated.
 #[derive(Clone, Copy)]
 pub struct Sent {
-    toggle: bool,
-    repeats: u8,
+    pub toggle: bool,
+    pub repeats: u8,
 }
 
 /// The link as the host keeps it: all but what it hears with.

@@ -43,9 +43,10 @@ pub(crate) fn check_written<'a, F: Parsed<'a>>(
     payload: &'a [u8],
     wire: &[u8],
 ) -> Result<(), Fail> {
-    let frame = F::with(case.code, payload).ok_or("no such code")?;
+    let head = case.head()?;
+    let frame = F::with(head.address, case.code, payload).ok_or("no such code")?;
     let mut buffer = [BLANK; WIRE];
-    let len = write(case.head()?, frame, &mut buffer)?;
+    let len = write(head, frame, &mut buffer)?;
     assert_eq!(rt; len, wire.len(), "written, row {row}");
     assert!(rt; len <= buffer.len(), "written, row {row}");
     assert!(rt; &buffer[..len] == wire, "written, row {row}");
@@ -80,8 +81,8 @@ pub(crate) fn check_read<'a, F: Parsed<'a>>(
     payload: &[u8],
     body: &'a [u8],
 ) -> Result<(), Fail> {
-    assert_eq!(rt; Head::of(body), Some(case.head()?), "read, row {row}");
-    let frame: F = read(body).ok_or("no frame")?;
+    let (head, frame): (Head, F) = read(body).ok_or("no frame")?;
+    assert_eq!(rt; head, case.head()?, "read, row {row}");
     assert_eq!(rt; frame.code(), case.code, "read, row {row}");
     assert_eq!(rt; frame.payload(), payload, "read, row {row}");
     Ok(())
