@@ -1,13 +1,13 @@
 -- Counts of blocks: how a count grows by one place, how copies that are wanting and copies that are over balance, and when there are none.
-use Rattle.std.proofs.Common.{◌≡◌, ℕ, zero, suc, ◌+◌, ◌<◌, ◌≤◌, Bool, true, false, cond, not, ◌&&◌, ◌==◌, nat_lt, List, [], ◌∷◌, ◌++◌, map, length, get_or, take, take_all, count_by, bytes_eq, Vec, vec_items, ◌⊎◌, inl, inr, sym, refl, ap, ap₂, ◌∙◌, subst, add-one, arith}
-use Rattle.std.proofs.lemmas.Bool.{cases_lt, lt-ltb, le-ltb, eqb-true, cases_Bool}
+use Rattle.std.proofs.Common.{◌≡◌, ℕ, zero, suc, ◌+◌, ◌<◌, ◌≤◌, Bool, true, false, cond, not, ◌&&◌, ◌==◌, nat_lt, nat_le, List, [], ◌∷◌, ◌++◌, map, length, get_or, take, take_all, count_by, bytes_eq, Vec, vec_items, ◌⊎◌, inl, inr, sym, refl, ap, ap₂, ◌∙◌, subst, arith}
+use Rattle.std.proofs.lemmas.Bool.{cases_lt, lt-ltb, le-ltb, le-leb, eqb-true, ne_eqb, cases_Bool}
 use Rattle.std.proofs.lemmas.List.{get_or-map, take-map}
 use Rattle.std.proofs.lemmas.List.Sums.{sum_by-cons, sum_by_push, sum_by_more, sum_by-take-le, count_by-le-length}
 use Rattle.std.proofs.lemmas.Slice.Eq.{bytes_eq-Decides}
 use Rattle.std.proofs.lemmas.List.FromFn.{length-range_with_len}
 use Rattle.std.specs.List.{range_with_len}
 use Rattle.order.specs.Blocks.{bytes_of}
-use Rattle.order.specs.Comparison.{copies, block_at, is_surplus, is_strange, is_doubled, number_of}
+use Rattle.order.specs.Comparison.{copies, block_at, is_surplus, is_lost, is_once, is_strange, is_doubled, number_of}
 
 -- 1 where a test passes
 abbrev pub one_if : Bool → ℕ
@@ -45,8 +45,14 @@ range_more : (a n j : ℕ) → a + n ≡ j → range_with_len a (suc n) ≡ rang
 range_more a zero j e = let f : a ≡ j = omega arith in ap (λ (m : ℕ). m ∷ []) f
 range_more a (suc n) j e = ap (λ (xs : List ℕ). a ∷ xs) (range_more (a + 1) n j (omega arith))
 
-pub below_more : (p : ℕ → Bool) (n : ℕ) → below p (suc n) ≡ below p n + one_if (p n)
+below_more : (p : ℕ → Bool) (n : ℕ) → below p (suc n) ≡ below p n + one_if (p n)
 below_more p n = ap (count_by p) (range_more 0 n n (omega arith)) ∙ sum_by_push (λ (k : ℕ). one_if (p k)) (range_with_len 0 n) n
+
+-- a loop's step, by what the test answered
+pub below_step : (p : ℕ → Bool) (k n : ℕ) (t : Bool) → n ≡ below p k → t ≡ p k → below p (k + 1) ≡ n + one_if t
+below_step p k n t so_far is =
+    let e : k + 1 ≡ suc k = omega arith in
+    ap (below p) e ∙ omega (arith, below_more p k, so_far, ap one_if is)
 
 pub few : (p : ℕ → Bool) (n : ℕ) → below p n ≤ n
 few p n = omega (arith, count_by-le-length p (range_with_len 0 n), length-range_with_len 0 n)
@@ -200,21 +206,66 @@ split_below expected collected (suc n) low =
 pub split_over : (expected collected : List (List ℕ)) → number_of (is_surplus collected expected) collected ≡ number_of (is_doubled expected collected) collected + count_by (is_strange expected) collected
 split_over expected collected = split_below expected collected (length collected) (omega arith) ∙ ap (λ (xs : List (List ℕ)). number_of (is_doubled expected collected) collected + count_by (is_strange expected) xs) (take_all (length collected) collected (omega arith))
 
+-- WITH NONE DOUBLED
+
+not_over : (x y : ℕ) → 0 < x → one_if (not (x == 0) && nat_lt x y) ≡ 0 → y ≤ x
+not_over x y some none =
+    let known : (x == 0) ≡ false = ne_eqb x 0 (λ z. omega arith) in
+    let h = subst (λ (t : Bool). one_if (not t && nat_lt x y) ≡ 0) known none in
+    grind (arith, one_if_lt x y, h)
+
+-- an expected block has no more copies than were expected
+doubled_below : (expected collected : List (List ℕ)) (b : List ℕ) (n : ℕ) → n ≤ length collected → 0 < copies b expected → below (is_doubled expected collected) n ≡ 0 → copies b (take n collected) ≤ copies b expected
+doubled_below expected collected b zero low some none = omega arith
+doubled_below expected collected b (suc n) low some none =
+    let more = below_more (is_doubled expected collected) n in
+    let rest = doubled_below expected collected b n (omega arith) some (omega (arith, more, none)) in
+    let e : n + 1 ≡ suc n = omega arith in
+    let at = ap (λ (m : ℕ). copies b (take m collected)) (sym e) in
+    elim (same_or_not (block_at collected n) b) [
+      | inl same ↦
+          let x = block_at collected n in
+          let fits = not_over (copies x expected) (copies x (take (n + 1) collected)) (subst (λ (c : List ℕ). 0 < copies c expected) (sym same) some) (omega (arith, more, none)) in
+          subst (λ (c : List ℕ). copies c (take (suc n) collected) ≤ copies c expected) same (subst (λ (m : ℕ). copies x (take m collected) ≤ copies x expected) e fits)
+      | inr differ ↦
+          let step = copies_more b collected n (omega arith) ∙ ap (λ (t : Bool). copies b (take n collected) + one_if t) differ.1 in
+          omega (arith, rest, step, at)
+    ]
+
+fits_expected : (expected collected : List (List ℕ)) (b : List ℕ) → 0 < copies b expected → number_of (is_doubled expected collected) collected ≡ 0 → copies b collected ≤ copies b expected
+fits_expected expected collected b some none = subst (λ (zs : List (List ℕ)). copies b zs ≤ copies b expected) (take_all (length collected) collected (omega arith)) (doubled_below expected collected b (length collected) (omega arith) some none)
+
+once_or_lost : (l m : Bool) → m ≡ true → one_if (not l && m) + one_if l ≡ 1
+once_or_lost true m h = refl
+once_or_lost false m h = ap (λ (t : Bool). one_if t + 0) h
+
+once_below : (expected collected : List (List ℕ)) → number_of (is_doubled expected collected) collected ≡ 0 → (n : ℕ) → n ≤ length expected → below (is_once expected collected) n + below (is_lost expected collected) n ≡ n
+once_below expected collected none zero low = refl
+once_below expected collected none (suc n) low =
+    let rest = once_below expected collected none n (omega arith) in
+    let b = block_at expected n in
+    let some : 0 < copies b expected = omega (arith, one_copy expected n (omega arith), sum_by-take-le (λ (x : List ℕ). one_if (bytes_eq b x)) expected (n + 1)) in
+    let fits = le-leb (copies b collected) (copies b expected) (fits_expected expected collected b some none) in
+    omega (arith, rest, once_or_lost (is_lost expected collected n) (nat_le (copies b collected) (copies b expected)) fits, below_more (is_once expected collected) n, below_more (is_lost expected collected) n)
+
+pub all_once : (expected collected : List (List ℕ)) → number_of (is_doubled expected collected) collected ≡ 0 → number_of (is_once expected collected) expected + number_of (is_lost expected collected) expected ≡ length expected
+all_once expected collected none = once_below expected collected none (length expected) (omega arith)
+
 -- AT BLOCKS OF THE PROGRAM
 
 module _ {Z : Type 0} where
   block_is : (vs : List (Vec ℕ Z)) (k : ℕ) (v : Vec ℕ Z) → k < length vs → v ≡ get_or vs k v → vec_items v ≡ block_at (bytes_of vs) k
   block_is vs k v low at = ap vec_items at ∙ sym (get_or-map vec_items vs k v [] low)
 
-  -- the count by one more place, from what was counted there
-  pub surplus_more : (vs others : List (Vec ℕ Z)) (k : ℕ) (v : Vec ℕ Z) (b c : List ℕ) (x y n : ℕ) → k < length vs → v ≡ get_or vs k v → b ≡ vec_items v → c ≡ vec_items v
-      → x ≡ copies b (bytes_of others) → y ≡ copies c (bytes_of (take (k + 1) vs)) → n ≡ below (is_surplus (bytes_of vs) (bytes_of others)) k
-      → below (is_surplus (bytes_of vs) (bytes_of others)) (k + 1) ≡ n + one_if (nat_lt x y)
-  surplus_more vs others k v b c x y n low at bs cs x_is y_is so_far =
-      let is = block_is vs k v low at in
-      let p = is_surplus (bytes_of vs) (bytes_of others) in
-      let e : k + 1 ≡ suc k = omega arith in
-      let x_at = x_is ∙ ap (λ (d : List ℕ). copies d (bytes_of others)) (bs ∙ is) in
-      let y_at = y_is ∙ ap₂ copies (cs ∙ is) (sym (take-map vec_items (k + 1) vs)) in
-      let last = ap₂ (λ (i j : ℕ). one_if (nat_lt i j)) x_at y_at in
-      ap (below p) e ∙ omega (arith, below_more p k, so_far, last)
+  -- the tests at a place, from what was counted there
+  pub surplus_at : (vs others : List (Vec ℕ Z)) (k : ℕ) (v : Vec ℕ Z) (b : List ℕ) (x y : ℕ) → k < length vs → v ≡ get_or vs k v → b ≡ vec_items v
+      → x ≡ copies b (bytes_of others) → y ≡ copies b (bytes_of (take (k + 1) vs)) → nat_lt x y ≡ is_surplus (bytes_of vs) (bytes_of others) k
+  surplus_at vs others k v b x y low at bs x_is y_is =
+      let is = bs ∙ block_is vs k v low at in
+      ap₂ nat_lt (x_is ∙ ap (λ (d : List ℕ). copies d (bytes_of others)) is) (y_is ∙ ap₂ copies is (sym (take-map vec_items (k + 1) vs)))
+
+  pub within_at : (vs others : List (Vec ℕ Z)) (k : ℕ) (v : Vec ℕ Z) (b : List ℕ) (x y : ℕ) → k < length vs → v ≡ get_or vs k v → b ≡ vec_items v
+      → x ≡ copies b (bytes_of others) → y ≡ copies b (bytes_of vs) → nat_le x y ≡ nat_le (copies (block_at (bytes_of vs) k) (bytes_of others)) (copies (block_at (bytes_of vs) k) (bytes_of vs))
+  within_at vs others k v b x y low at bs x_is y_is =
+      let is = bs ∙ block_is vs k v low at in
+      ap₂ nat_le (x_is ∙ ap (λ (d : List ℕ). copies d (bytes_of others)) is) (y_is ∙ ap (λ (d : List ℕ). copies d (bytes_of vs)) is)

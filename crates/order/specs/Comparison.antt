@@ -1,5 +1,6 @@
 -- What came of the blocks that were expected. Blocks are compared byte for byte.
-use Rattle.std.specs.Prelude.{◌≡◌, ℕ, ◌+◌, ◌-◌, ◌==◌, ◌&&◌, Bool, not, nat_lt, List, [], length, take, slice_index_or, count_by, bytes_eq}
+use Rattle.std.specs.Prelude.{◌≡◌, ℕ, ◌+◌, ◌==◌, ◌&&◌, Bool, not, nat_lt, nat_le, List, [], length}
+use Rattle.std.specs.Prelude.{take, slice_index_or, count_by, bytes_eq}
 use Rattle.std.specs.List.{range_with_len}
 use Rattle.order.specs.declared.comparison.Comparison.{Comparison}
 
@@ -19,6 +20,11 @@ is_surplus blocks others k =
 abbrev pub is_lost : List (List ℕ) → List (List ℕ) → ℕ → Bool
 is_lost expected collected k = is_surplus expected collected k
 
+-- expected block number k came, and no more often than it was expected
+abbrev pub is_once : List (List ℕ) → List (List ℕ) → ℕ → Bool
+is_once expected collected k = let b = block_at expected k in
+    not (is_lost expected collected k) && nat_le (copies b collected) (copies b expected)
+
 -- a collected block was not expected
 abbrev pub is_strange : List (List ℕ) → List ℕ → Bool
 is_strange expected b = copies b expected == 0
@@ -34,10 +40,9 @@ number_of p blocks = count_by p (range_with_len 0 (length blocks))
 
 abbrev pub comparison : List (List ℕ) → List (List ℕ) → Comparison
 comparison expected collected =
-    let lost = number_of (is_lost expected collected) expected in
     record {
-      once = length expected - lost;
-      lost = lost;
+      once = number_of (is_once expected collected) expected;
+      lost = number_of (is_lost expected collected) expected;
       doubled = number_of (is_doubled expected collected) collected;
       strange = count_by (is_strange expected) collected;
     }
@@ -48,4 +53,5 @@ is_whole c = (c.lost == 0) && ((c.doubled == 0) && (c.strange == 0))
 
 -- each block came as often as it was expected
 abbrev pub CameAsExpected : List (List ℕ) → List (List ℕ) → Type 0
-CameAsExpected expected collected = (block : List ℕ) → copies block collected ≡ copies block expected
+CameAsExpected expected collected =
+    (block : List ℕ) → copies block collected ≡ copies block expected

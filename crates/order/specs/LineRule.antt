@@ -6,17 +6,17 @@ use Rattle.order.specs.declared.line_rule.LineRule.{LineRule}
 
 -- each was brought whole, and they passed in the order of writing
 abbrev pub KeepsLineRule : List Passed → Type 0
-KeepsLineRule frames = All (λ p. IsTrue p.is_whole) frames × IsNonDecreasingBy (λ p. p.place) frames
+KeepsLineRule frames =
+    All (λ p. IsTrue p.is_whole) frames × IsNonDecreasingBy (λ p. p.place) frames
 
 -- how it is told
 abbrev pub kept_words : ℕ → ℕ → List ℕ
-kept_words at_modem at_terminal =
-    codes "The line rule was kept: with each frame that passed, " ++ (decimal at_modem
-    ++ (codes " at the modem and " ++ (decimal at_terminal
-    ++ codes " at the terminal, the line had just brought one whole, in the order of writing.")))
-
-abbrev pub broken_words : List ℕ
-broken_words = codes "The line rule was broken: with a frame that passed, the line had not just brought one whole, in the order of writing."
+kept_words at_modem at_terminal = codes "The line kept its rule: every frame that passed, "
+    ++ (decimal at_modem ++ (codes " at the modem and " ++ (decimal at_terminal
+    ++ codes " at the terminal, was one that it had just brought whole, in the order of writing.")))
 
 abbrev pub line_rule_words : LineRule → List ℕ
-line_rule_words r = if r.is_kept then kept_words r.at_modem r.at_terminal else broken_words
+line_rule_words r = if r.is_kept
+    then kept_words r.at_modem r.at_terminal
+    else (codes "The line broke its rule: a frame passed that it had not just brought whole, "
+    ++ codes "in the order of writing.")

@@ -11,10 +11,13 @@ byte_words n = words_of (counted n Byte)
 
 abbrev pub order_words : OrderCame → List ℕ
 order_words o = if is_whole o.came
-    then codes "Each block of the order came once, the same byte for byte: " ++ (byte_words o.len ++ codes ".")
-    else codes "The order of " ++ (byte_words o.len ++ codes " did not come as it was sent.")
+    then codes "Each block of the order came once, the same byte for byte: "
+    ++ (byte_words o.len ++ codes ".")
+    else (codes "The order of " ++ (byte_words o.len ++ codes " did not come as it was sent."))
 
 abbrev pub texts_words : TextsCame → List ℕ
 texts_words t = if is_whole t.came
-    then codes "The modem's two texts came once, the same byte for byte: " ++ (byte_words t.len ++ codes ".")
-    else codes "The modem's two texts did not come as they were sent: " ++ (byte_words t.len ++ codes " came.")
+    then codes "The modem's two texts came once, the same byte for byte: "
+    ++ (byte_words t.len ++ codes ".")
+    else (codes "The modem's two texts did not come as they were sent: "
+    ++ (byte_words t.len ++ codes " came."))

@@ -1,16 +1,17 @@
 // What came of a list of blocks.
-ghost use Rattle.std.specs.Prelude.{◌≡◌, ◌+◌, ◌↔◌, ◌≤◌, length, count_by, IsTrue};
+ghost use Rattle.std.specs.Prelude.{◌≡◌, ◌+◌, ◌<◌, ◌↔◌, length, count_by, IsTrue};
 ghost use Rattle.order.specs.Blocks.{bytes_of};
-ghost use Rattle.order.specs.Comparison.{copies, number_of, is_surplus, is_strange, comparison, is_whole, CameAsExpected};
+ghost use Rattle.order.specs.Comparison.{copies, number_of, is_surplus, is_once, is_strange};
+ghost use Rattle.order.specs.Comparison.{comparison, is_whole, CameAsExpected};
 
-/// How many of the blocks that were expected came, and what else did.
+/// What became of the blocks that were expected, and what else came.
 #[derive(Clone, Copy, PartialEq, Eq, Debug)]
 pub struct Comparison {
-    /// Expected blocks that came.
+    /// Expected blocks that came, and no more often than they were expected.
     pub once: usize,
     /// Expected blocks that did not come.
     pub lost: usize,
-    /// Blocks that came more often than they were expected.
+    /// Blocks that came although all that were expected of them had come before.
     pub doubled: usize,
     /// Blocks that came and were not expected.
     pub strange: usize,
@@ -27,35 +28,68 @@ impl Comparison {
     }
 }
 
-/// Compares the blocks that were expected with those that were collected, byte for byte and in whatever order.
+/// Compares the blocks that were expected with those that were collected, byte for byte and in
+/// whatever order.
 pub fn compare(expected: &[Vec<u8>], collected: &[Vec<u8>]) -> Comparison
     ensures counts { result ≡ comparison (bytes_of expected.now) (bytes_of collected.now) }
     ensures balance { length collected.now + result.lost ≡
         length expected.now + (result.doubled + result.strange) }
+    ensures once { result.doubled ≡ 0 → result.once + result.lost ≡ length expected.now }
     ensures whole { IsTrue (is_whole result) ↔
         CameAsExpected (bytes_of expected.now) (bytes_of collected.now) }
 {
-    let lost = surplus(expected, collected);
     let strange = strangers(collected, expected);
     Comparison {
-        once: expected.len() - lost,
-        lost,
+        once: come_once(expected, collected),
+        lost: surplus(expected, collected),
         doubled: surplus(collected, expected) - strange,
         strange,
     }
 }
 
-// How many of the blocks are one copy more than the others have.
-fn surplus(blocks: &[Vec<u8>], others: &[Vec<u8>]) -> usize
-    ensures { result ≡ number_of (is_surplus (bytes_of blocks.now) (bytes_of others.now)) (bytes_of blocks.now) }
+// How many of the expected blocks came, and no more often than they were expected.
+fn come_once(expected: &[Vec<u8>], collected: &[Vec<u8>]) -> usize
+    ensures { result ≡
+        number_of (is_once (bytes_of expected.now) (bytes_of collected.now)) (bytes_of expected.now) }
 {
     let mut count = 0;
-    for (place, block) in blocks.iter().enumerate() {
-        if copies(others, block) < copies(&blocks[..=place], block) {
+    for place in 0..expected.len() {
+        if is_once(expected, collected, place) {
             count += 1;
         }
     }
     count
+}
+
+fn is_once(expected: &[Vec<u8>], collected: &[Vec<u8>], place: usize) -> bool
+    requires { place < length expected.now }
+    ensures { result ≡ is_once (bytes_of expected.now) (bytes_of collected.now) place }
+{
+    let block = expected[place].as_slice();
+    let lost = is_surplus(expected, collected, place);
+    !lost && copies(collected, block) <= copies(expected, block)
+}
+
+// How many of the blocks are one copy more than the others have.
+fn surplus(blocks: &[Vec<u8>], others: &[Vec<u8>]) -> usize
+    ensures { result ≡
+        number_of (is_surplus (bytes_of blocks.now) (bytes_of others.now)) (bytes_of blocks.now) }
+{
+    let mut count = 0;
+    for place in 0..blocks.len() {
+        if is_surplus(blocks, others, place) {
+            count += 1;
+        }
+    }
+    count
+}
+
+fn is_surplus(blocks: &[Vec<u8>], others: &[Vec<u8>], place: usize) -> bool
+    requires { place < length blocks.now }
+    ensures { result ≡ is_surplus (bytes_of blocks.now) (bytes_of others.now) place }
+{
+    let block = blocks[place].as_slice();
+    copies(others, block) < copies(&blocks[..=place], block)
 }
 
 // How many of the blocks have no copy among the others.

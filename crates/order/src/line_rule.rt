@@ -8,7 +8,8 @@ use std::fmt;
 /// A frame that passed at an end.
 #[derive(Clone, Copy, PartialEq, Eq, Debug)]
 pub struct Passed {
-    /// The place, among all that the other end has written, of the frame that the line was bringing.
+    /// The place, among all that the other end has written, of the frame that the line was
+    /// bringing.
     pub place: usize,
     /// Whether the bytes that were heard last are that frame as it was written.
     pub is_whole: bool,
@@ -32,7 +33,8 @@ impl Passed {
 /// Whether the lines kept their rule, and how many frames passed at either end.
 #[derive(Clone, Copy, PartialEq, Eq, Debug)]
 pub struct LineRule {
-    /// With each frame that passed, the line had just brought one whole, and all in the order of writing.
+    /// With each frame that passed, the line had just brought one whole, and all in the order of
+    /// writing.
     pub is_kept: bool,
     pub at_modem: usize,
     pub at_terminal: usize,
@@ -72,12 +74,12 @@ impl fmt::Display for LineRule {
         if is_kept {
             write!(
                 f,
-                "The line rule was kept: with each frame that passed, {at_modem} at the modem and {at_terminal} at the terminal, the line had just brought one whole, in the order of writing."
+                "The line kept its rule: every frame that passed, {at_modem} at the modem and {at_terminal} at the terminal, was one that it had just brought whole, in the order of writing."
             )
         } else {
             write!(
                 f,
-                "The line rule was broken: with a frame that passed, the line had not just brought one whole, in the order of writing."
+                "The line broke its rule: a frame passed that it had not just brought whole, in the order of writing."
             )
         }
     }

@@ -67,14 +67,16 @@ refusal_text refusal.ManyRepeats = codes "more repeats than may be set"
 -- with its number; a fault of the reader with its count
 abbrev pub refusal_words : Refusal → List ℕ
 refusal_words r =
-    codes "refusal " ++ (decimal (refusal_number r) ++ (codes ": " ++ (refusal_text r ++ codes ".")))
+    codes "refusal " ++ (decimal (refusal_number r)
+    ++ (codes ": " ++ (refusal_text r ++ codes ".")))
 
 abbrev pub byte_words : ℕ → List ℕ
 byte_words n = number.words_of (number.counted n Byte)
 
 abbrev pub dropped_words : Refusal → List ℕ
 dropped_words (refusal.Reader fault) =
-    codes "fault " ++ (decimal (fault_number fault.reason) ++ (codes " after " ++ (byte_words fault.count
+    codes "fault " ++ (decimal (fault_number fault.reason)
+    ++ (codes " after " ++ (byte_words fault.count
     ++ (codes ": " ++ (words_of fault.reason ++ codes ". The frame is dropped.")))))
 dropped_words r = refusal_words r
 

@@ -1,4 +1,5 @@
-// The line from one end to the other: it takes a frame as it was written, and brings what the script makes of it.
+// The line from one end to the other: it takes a frame as it was written, and brings what the
+// script makes of it.
 use crate::script::Fate;
 use order::line_rule::Passed;
 use std::alloc::{AllocError, Global};
@@ -12,33 +13,34 @@ const FALSE_START: [u8; 3] = [0xaa, 0xaa, 0x71];
 // The place of the byte that is damaged: behind the start, in the shortest frame too.
 const DAMAGED: usize = 5;
 
-/// What an end hears of one frame.
+/// What comes of one frame.
 #[derive(Drop)]
 pub struct Passage {
+    /// The bytes that the line brings.
     pub bytes: Vec<u8>,
-    // how many of them were heard
-    heard: usize,
+    // those that the end has heard by now
+    heard: Vec<u8>,
     // the frame as it was written, and its place among all that the other end has written
     frame: Vec<u8>,
     place: usize,
 }
 
 impl Passage {
-    /// The next byte was heard.
-    pub fn hear(&mut self) {
-        self.heard = self.heard.saturating_add(1);
+    /// The end has heard a byte.
+    pub fn hear(&mut self, byte: u8) -> Result<(), AllocError> {
+        self.heard.push(byte)?;
+        Ok(())
     }
 
-    /// That a frame passed with the byte that was heard last.
+    /// A frame that passed with the byte that was heard last.
     pub fn passed(&self) -> Passed {
-        let heard = self.bytes.get(..self.heard).unwrap_or(&[]);
-        Passed::new(self.place, heard, self.frame.as_slice())
+        Passed::new(self.place, self.heard.as_slice(), self.frame.as_slice())
     }
 
     fn copy(&self) -> Result<Passage, AllocError> {
         Ok(Passage {
             bytes: self.bytes.clone()?,
-            heard: self.heard,
+            heard: self.heard.clone()?,
             frame: self.frame.clone()?,
             place: self.place,
         })
@@ -79,7 +81,7 @@ impl Line {
         let fate = self.fate();
         let passage = Passage {
             bytes: altered(heap, fate, wire)?,
-            heard: 0,
+            heard: Vec::new(heap),
             frame: Vec::from_slice(heap, wire)?,
             place: self.written,
         };

@@ -1,5 +1,6 @@
-// An order goes from the terminal to the modem over a line with noise, loss and repeats, and the modem's side replies. What each
-// call answers is told in words, and at the end what became of every block.
+// An order goes from the terminal to the modem over a line with noise, loss and repeats, and the
+// modem's side replies. What each call answers is told in words, and at the end what became of every
+// block.
 #![tactic(auto)]
 
 mod cargo;
@@ -83,7 +84,8 @@ fn host() -> Result<Host> {
     }
 }
 
-// Plays what the session calls for, a list of calls after the other, until it calls for nothing more.
+// Plays what the session calls for, a list of calls after the other, until it calls for nothing
+// more.
 fn play<A: Store, B: Store, C: Store, D: Store>(
     ends: &mut Ends,
     stores: &mut Stores<A, B, C, D>,

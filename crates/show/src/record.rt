@@ -33,54 +33,58 @@ impl Record {
     }
 }
 
-/// The submissions of one end, each at its number on the channel, less 1.
+/// The submissions of one end, in the order of their numbers on the channel.
 #[derive(Drop)]
 pub struct Submissions {
-    cargos: Vec<Cargo>,
-    outcomes: Vec<Outcome>,
+    list: Vec<Submission>,
+}
+
+#[derive(Clone, Copy)]
+struct Submission {
+    cargo: Cargo,
+    outcome: Outcome,
 }
 
 impl Submissions {
     fn new(heap: Global) -> Submissions {
         Submissions {
-            cargos: Vec::new(heap),
-            outcomes: Vec::new(heap),
+            list: Vec::new(heap),
         }
     }
 
     /// One more, which waits.
     pub fn push(&mut self, cargo: Cargo) -> Result<(), AllocError> {
-        self.cargos.push(cargo)?;
-        self.outcomes.push(Outcome::Waiting)?;
+        let outcome = Outcome::Waiting;
+        self.list.push(Submission { cargo, outcome })?;
         Ok(())
     }
 
     /// What became of the submission of that number.
     pub fn settle(&mut self, number: u32, outcome: Outcome) {
         if let Some(place) = place_of(number) {
-            if let Some(kept) = self.outcomes.get_mut(place) {
-                *kept = outcome;
+            if let Some(submission) = self.list.get_mut(place) {
+                submission.outcome = outcome;
             }
         }
     }
 
     /// What the submission of that number carries.
     pub fn cargo(&self, number: u32) -> Option<Cargo> {
-        self.cargos.get(place_of(number)?).copied()
+        Some(self.list.get(place_of(number)?)?.cargo)
+    }
+
+    /// What became of each.
+    pub fn outcomes(&self, heap: Global) -> Result<Vec<Outcome>, AllocError> {
+        self.list.iter().map(|one| one.outcome).collect(heap)
     }
 
     /// The bytes of each, with the blocks of that order.
     pub fn blocks(&self, heap: Global, order: &[u8]) -> Result<Vec<Vec<u8>>, AllocError> {
         let mut blocks = Vec::new(heap);
-        for cargo in self.cargos.as_slice() {
-            blocks.push(Vec::from_slice(heap, cargo.bytes(order))?)?;
+        for submission in self.list.as_slice() {
+            blocks.push(Vec::from_slice(heap, submission.cargo.bytes(order))?)?;
         }
         Ok(blocks)
-    }
-
-    /// What became of each.
-    pub fn outcomes(&self) -> &[Outcome] {
-        self.outcomes.as_slice()
     }
 }
 

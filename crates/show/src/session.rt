@@ -1,5 +1,5 @@
-// A session of terminal and modem: the programs at both ends, and the line between them. It says which calls are made next, and
-// takes what they answer.
+// A session of terminal and modem: the programs at both ends, and the line between them. It says
+// which calls are made next, and takes what they answer.
 use crate::cargo::Cargo;
 use crate::line::{Line, Passage};
 use crate::record::Record;
@@ -89,7 +89,8 @@ impl<'a> Session<'a> {
         }
     }
 
-    /// The record of the run, or why the session could not go on. A note that is held is written off.
+    /// The record of the run, or why the session could not go on. A note that is held is written
+    /// off.
     pub fn finish(self) -> anyhow::Result<Record> {
         let Session {
             record,

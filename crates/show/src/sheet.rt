@@ -46,7 +46,8 @@ fn print_submitted(
     submissions: &Submissions,
     left: u32,
 ) -> Result<()> {
-    let outcomes = submissions.outcomes();
+    let kept = submissions.outcomes(rt.alloc())?;
+    let outcomes = kept.as_slice();
     println!(rt;
         "{direction}: {} submitted, {} confirmed, {} doubtful, {left} waiting.",
         Kind::Block.of(outcomes.len()),

@@ -1,6 +1,7 @@
 // The words for what the ends answer.
 ghost use Rattle.std.specs.Prelude.{◌≡◌, Some};
-ghost use Rattle.show.specs.Words.{block_words, cause_text, dropped_words, fall_words, heard_words, met_words, refusal_text, refusal_words, rule_text, step_text, went_words};
+ghost use Rattle.show.specs.Words.{block_words, cause_text, dropped_words, fall_words, heard_words};
+ghost use Rattle.show.specs.Words.{met_words, refusal_text, refusal_words, rule_text, step_text, went_words};
 
 use ends::name::Went;
 use ends::refusal::Refusal;
@@ -26,7 +27,8 @@ pub struct FallWords<'a>(pub &'a Fall);
 #[derive(Clone, Copy)]
 pub struct HeardWords<'a>(pub &'a Heard);
 
-/// The rule that a frame met at the modem, the block that left its store, and the length of the answer.
+/// The rule that a frame met at the modem, the block that left its store, and the length of the
+/// answer.
 #[derive(Clone, Copy)]
 pub struct RuleWords(pub TncHeard);
 

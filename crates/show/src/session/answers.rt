@@ -38,7 +38,7 @@ impl Session<'_> {
             Event::HostStep(Err(refusal)) => no_way_on("step", *refusal),
             Event::HostTimer(Ok(timed)) => self.terminal_timed(timed, wire),
             Event::HostTimer(Err(refusal)) => no_way_on("timer", *refusal),
-            Event::HostHear(_, heard) => self.terminal_hears(heard),
+            Event::HostHear(byte, heard) => self.terminal_hears(*byte, heard),
             Event::HostSubmit(_, _, Ok(name)) => self.terminal_submitted("submit", *name),
             Event::HostSubmit(_, _, Err(refusal)) => self.terminal_waits(*refusal),
             Event::HostSubmitAgain(_, _, _, Ok(name)) => {
@@ -50,7 +50,7 @@ impl Session<'_> {
             }
             Event::HostCollect(_, Ok(len)) => self.terminal_collected(*len, block),
             Event::HostCollect(_, Err(refusal)) => self.tell_refused("Terminal, collect", *refusal),
-            Event::TncHear(_, heard) => self.modem_hears(heard, wire),
+            Event::TncHear(byte, heard) => self.modem_hears(*byte, heard, wire),
             Event::TncSubmit(_, _, Ok(name)) => self.modem_submitted(*name),
             Event::TncSubmit(_, _, Err(refusal)) => no_way_on("submit", *refusal),
             Event::TncCollect(_, Ok(len)) => self.modem_collected(*len, block),
@@ -59,8 +59,8 @@ impl Session<'_> {
         }
     }
 
-    // A note is held until its block is submitted again. One whose block is given up is written off, and so is one that is still
-    // held when the next comes.
+    // A note is held until its block is submitted again. One whose block is given up is written
+    // off, and so is one that is still held when the next comes.
     fn keep(&mut self, note: DoubtNote) {
         let old = if self.gives_up {
             self.gives_up = false;
@@ -82,11 +82,14 @@ impl Session<'_> {
         }
     }
 
-    // The next byte of what the line brings was heard. If a frame passed with it: which one the line was bringing.
-    pub(crate) fn hear_next(&mut self, has_passed: bool) -> Option<Passed> {
-        let passage = self.hearing.as_mut()?;
-        passage.hear();
-        has_passed.then(|| passage.passed())
+    // An end heard a byte of what the line brings. If a frame passed with it: which the line was
+    // bringing, and whether it had just come whole.
+    pub(crate) fn hear_byte(&mut self, byte: u8, has_passed: bool) -> Result<Option<Passed>> {
+        let Some(passage) = &mut self.hearing else {
+            bail!("a byte is heard that the line did not bring");
+        };
+        passage.hear(byte)?;
+        Ok(has_passed.then(|| passage.passed()))
     }
 
     fn tell_refused(&self, call: &str, refusal: Refusal) -> Result<()> {

@@ -24,10 +24,11 @@ impl Session<'_> {
     /// A byte of the terminal was heard.
     pub(crate) fn modem_hears(
         &mut self,
+        byte: u8,
         heard: &std::result::Result<Option<Heard>, Refusal>,
         wire: &[u8],
     ) -> Result<()> {
-        if let Some(passed) = self.hear_next(has_passed(heard)) {
+        if let Some(passed) = self.hear_byte(byte, has_passed(heard))? {
             self.record.at_modem.push(passed)?;
         }
         match heard {
@@ -37,7 +38,8 @@ impl Session<'_> {
         }
     }
 
-    // The rule that a frame of the terminal met. The answer goes on the line, and a block that came is collected first.
+    // The rule that a frame of the terminal met. The answer goes on the line, and a block that came
+    // is collected first.
     fn modem_meets(&mut self, heard: Heard, wire: &[u8]) -> Result<()> {
         let fate = self.to_terminal.fate().words();
         println!(self.rt; "Modem, hears: {}{fate}", RuleWords(heard))?;

@@ -51,8 +51,8 @@ impl<'a> Session<'a> {
         }
     }
 
-    // What the programs call for where no answer is to be heard: submits as long as there is room, the next stage where this one is
-    // through, and else what the terminal's state allows.
+    // What the programs call for where no answer is to be heard: submits as long as there is room,
+    // the next stage where this one is through, and else what the terminal's state allows.
     fn own_calls(&mut self, ends: &Ends) -> Result<Vec<Call<'a>>, AllocError> {
         let heap = self.rt.alloc();
         let quiet = self.is_quiet(ends);

@@ -49,9 +49,10 @@ impl Session<'_> {
     /// A byte of the modem was heard.
     pub(crate) fn terminal_hears(
         &mut self,
+        byte: u8,
         heard: &std::result::Result<Option<Heard>, Refusal>,
     ) -> Result<()> {
-        if let Some(passed) = self.hear_next(has_passed(heard)) {
+        if let Some(passed) = self.hear_byte(byte, has_passed(heard))? {
             self.record.at_terminal.push(passed)?;
         }
         match heard {
@@ -81,7 +82,8 @@ impl Session<'_> {
         }
     }
 
-    // The link went down. A doubtful block of the order is to be submitted again, and the note of another is to be written off.
+    // The link went down. A doubtful block of the order is to be submitted again, and the note of
+    // another is to be written off.
     fn terminal_falls(&mut self, fall: &Fall) -> Result<()> {
         let Some(note) = &fall.doubt else {
             return Ok(());

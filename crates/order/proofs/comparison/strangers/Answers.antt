@@ -1,5 +1,5 @@
 -- The blocks that pass the test are counted.
-use Rattle.std.proofs.Common.{List, ℕ, sym, ◌∙◌, rules, tests, vec_items}
+use Rattle.std.proofs.Common.{sym, ◌∙◌, rules, tests, vec_items}
 use Rattle.std.proofs.lemmas.Iterator.{YieldsList-from_slice}
 use Rattle.std.proofs.lemmas.Iterator.Consumers.{YieldsList-from_filter, count_from_yields_List}
 use Rattle.std.proofs.lemmas.List.Sums.{length-filter}

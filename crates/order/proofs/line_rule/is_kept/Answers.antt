@@ -1,5 +1,5 @@
 -- All were whole, and no place is below the one before it.
-use Rattle.std.proofs.Common.{◌≡◌, ℕ, ◌≤◌, true, false, List, IsTrue, IsFalse, rules, tests, arith}
+use Rattle.std.proofs.Common.{◌≡◌, false, IsTrue, rules, tests, arith}
 use Rattle.std.proofs.lemmas.Bool.{MatchBool-at_true}
 use Rattle.std.proofs.lemmas.Fn.{always_returns_same}
 use Rattle.std.proofs.lemmas.Iterator.{YieldsList-from_slice, cases_from_all}
