@@ -38,11 +38,14 @@ pub fn compare(expected: &[Vec<u8>], collected: &[Vec<u8>]) -> Comparison
     ensures whole { IsTrue (is_whole result) ↔
         CameAsExpected (bytes_of expected.now) (bytes_of collected.now) }
 {
+    let came_once = come_once(expected, collected);
+    let lost = surplus(expected, collected);
+    let over = surplus(collected, expected);
     let strange = strangers(collected, expected);
     Comparison {
-        once: come_once(expected, collected),
-        lost: surplus(expected, collected),
-        doubled: surplus(collected, expected) - strange,
+        once: came_once,
+        lost,
+        doubled: over - strange,
         strange,
     }
 }
@@ -110,4 +113,48 @@ pub fn copies(blocks: &[Vec<u8>], block: &[u8]) -> usize
         .iter()
         .filter(|other| block == other.as_slice())
         .count()
+}
+
+#[cfg(test)]
+mod tests {
+    use super::*;
+    use std::alloc::{AllocError, Global};
+    use std::test::Fail;
+
+    // Blocks of one byte each.
+    fn blocks(heap: Global, bytes: &str) -> Result<Vec<Vec<u8>>, AllocError> {
+        let mut blocks = Vec::new(heap);
+        for byte in bytes.as_bytes() {
+            blocks.push(Vec::from_slice(heap, &[*byte])?)?;
+        }
+        Ok(blocks)
+    }
+
+    // Expected, collected; once, lost, doubled, strange.
+    #[test]
+    fn numbers(rt: HostRuntime) -> Result<(), Fail> {
+        let cases = [
+            ("", "", [0, 0, 0, 0]),
+            ("abcd", "abdc", [4, 0, 0, 0]),
+            ("abcd", "abd", [3, 1, 0, 0]),
+            ("abcd", "abcdc", [3, 0, 1, 0]),
+            ("abcd", "abcdccc", [3, 0, 3, 0]),
+            ("abcd", "axcdx", [3, 1, 0, 2]),
+            ("aab", "ab", [2, 1, 0, 0]),
+            ("aab", "aaab", [1, 0, 1, 0]),
+            ("ab", "", [0, 2, 0, 0]),
+        ];
+        for (expected, collected, [once, lost, doubled, strange]) in cases {
+            let expected = blocks(rt.alloc(), expected)?;
+            let collected = blocks(rt.alloc(), collected)?;
+            let numbers = Comparison {
+                once,
+                lost,
+                doubled,
+                strange,
+            };
+            assert_eq!(rt; compare(expected.as_slice(), collected.as_slice()), numbers);
+        }
+        Ok(())
+    }
 }

@@ -57,7 +57,7 @@ fn main(rt: HostRuntime) -> Result<()> {
     let mut session = Session::new(&rt, text.as_slice());
     play(&mut ends, &mut stores, &mut session);
     let record = session.finish()?;
-    sheet::print(&rt, text.as_slice(), &record, &ends, &stores)
+    sheet::print(&rt, text.as_slice(), &record, &stores)
 }
 
 // The order from standard input, or one of our own.

@@ -4,39 +4,24 @@ use order::line_rule::Passed;
 use order::outcome::Outcome;
 use std::alloc::{AllocError, Global};
 
-/// What was submitted, collected and heard, both ways.
+/// What went either way.
 #[derive(Drop)]
 pub struct Record {
-    pub from_terminal: Submissions,
-    pub from_modem: Submissions,
-    /// The blocks that the modem's program collected before the farewell was submitted, and after.
-    pub order: Vec<Vec<u8>>,
-    pub farewell: Vec<Vec<u8>>,
-    /// The blocks that the terminal's program collected.
-    pub texts: Vec<Vec<u8>>,
-    /// The frames that passed at each end.
-    pub at_modem: Vec<Passed>,
-    pub at_terminal: Vec<Passed>,
+    pub to_modem: Direction,
+    pub to_terminal: Direction,
+    /// How many blocks the modem's program had collected when the farewell was submitted.
+    pub before_farewell: usize,
 }
 
-impl Record {
-    pub fn new(heap: Global) -> Record {
-        Record {
-            from_terminal: Submissions::new(heap),
-            from_modem: Submissions::new(heap),
-            order: Vec::new(heap),
-            farewell: Vec::new(heap),
-            texts: Vec::new(heap),
-            at_modem: Vec::new(heap),
-            at_terminal: Vec::new(heap),
-        }
-    }
-}
-
-/// The submissions of one end, in the order of their numbers on the channel.
+/// What went from one end to the other.
 #[derive(Drop)]
-pub struct Submissions {
-    list: Vec<Submission>,
+pub struct Direction {
+    // in the order of their numbers on the channel
+    submissions: Vec<Submission>,
+    /// The blocks that the other end's program collected.
+    pub collected: Vec<Vec<u8>>,
+    /// The frames that passed at the other end.
+    pub passed: Vec<Passed>,
 }
 
 #[derive(Clone, Copy)]
@@ -45,24 +30,42 @@ struct Submission {
     outcome: Outcome,
 }
 
-impl Submissions {
-    fn new(heap: Global) -> Submissions {
-        Submissions {
-            list: Vec::new(heap),
+impl Record {
+    pub fn new(heap: Global) -> Record {
+        Record {
+            to_modem: Direction::new(heap),
+            to_terminal: Direction::new(heap),
+            before_farewell: 0,
         }
     }
 
-    /// One more, which waits.
-    pub fn push(&mut self, cargo: Cargo) -> Result<(), AllocError> {
+    /// What the modem's program collected before the farewell was submitted, and after.
+    pub fn order_and_farewell(&self) -> (&[Vec<u8>], &[Vec<u8>]) {
+        let collected = self.to_modem.collected.as_slice();
+        collected.split_at(self.before_farewell.min(collected.len()))
+    }
+}
+
+impl Direction {
+    fn new(heap: Global) -> Direction {
+        Direction {
+            submissions: Vec::new(heap),
+            collected: Vec::new(heap),
+            passed: Vec::new(heap),
+        }
+    }
+
+    /// One more submission, which waits.
+    pub fn submit(&mut self, cargo: Cargo) -> Result<(), AllocError> {
         let outcome = Outcome::Waiting;
-        self.list.push(Submission { cargo, outcome })?;
+        self.submissions.push(Submission { cargo, outcome })?;
         Ok(())
     }
 
     /// What became of the submission of that number.
     pub fn settle(&mut self, number: u32, outcome: Outcome) {
         if let Some(place) = place_of(number) {
-            if let Some(submission) = self.list.get_mut(place) {
+            if let Some(submission) = self.submissions.get_mut(place) {
                 submission.outcome = outcome;
             }
         }
@@ -70,18 +73,21 @@ impl Submissions {
 
     /// What the submission of that number carries.
     pub fn cargo(&self, number: u32) -> Option<Cargo> {
-        Some(self.list.get(place_of(number)?)?.cargo)
+        Some(self.submissions.get(place_of(number)?)?.cargo)
     }
 
-    /// What became of each.
+    /// What became of each submission.
     pub fn outcomes(&self, heap: Global) -> Result<Vec<Outcome>, AllocError> {
-        self.list.iter().map(|one| one.outcome).collect(heap)
+        self.submissions
+            .iter()
+            .map(|submission| submission.outcome)
+            .collect(heap)
     }
 
-    /// The bytes of each, with the blocks of that order.
+    /// The bytes of each submission, with the blocks of that order.
     pub fn blocks(&self, heap: Global, order: &[u8]) -> Result<Vec<Vec<u8>>, AllocError> {
         let mut blocks = Vec::new(heap);
-        for submission in self.list.as_slice() {
+        for submission in self.submissions.as_slice() {
             blocks.push(Vec::from_slice(heap, submission.cargo.bytes(order))?)?;
         }
         Ok(blocks)

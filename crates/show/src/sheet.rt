@@ -1,9 +1,9 @@
 // The sheet at the end: what became of all blocks, and whether any was lost, doubled or changed.
 use crate::own::FAREWELL;
-use crate::record::{Record, Submissions};
+use crate::record::{Direction, Record};
 use crate::session::CHANNEL;
 use anyhow::Result;
-use link::pair::{Ends, Stores};
+use link::pair::Stores;
 use order::blocks::blocks;
 use order::comparison::{compare, copies};
 use order::line_rule::LineRule;
@@ -18,54 +18,44 @@ pub fn print<A: Store, B: Store, C: Store, D: Store>(
     rt: &HostRuntime,
     order: &[u8],
     record: &Record,
-    ends: &Ends,
     stores: &Stores<A, B, C, D>,
 ) -> Result<()> {
-    let left = ends.host.waiting(CHANNEL);
-    let there = stores.tnc_in.count(CHANNEL);
-    let collected = record.order.len().saturating_add(record.farewell.len());
-    print_submitted(rt, "Terminal to modem", &record.from_terminal, left)?;
-    print_collected(rt, "Terminal to modem", collected, there)?;
-    let left = ends.tnc.waiting(CHANNEL);
-    let there = stores.host_in.count(CHANNEL);
-    print_submitted(rt, "Modem to terminal", &record.from_modem, left)?;
-    print_collected(rt, "Modem to terminal", record.texts.len(), there)?;
+    let Record {
+        to_modem,
+        to_terminal,
+        before_farewell: _,
+    } = record;
+    let at_modem = stores.tnc_in.count(CHANNEL);
+    let at_terminal = stores.host_in.count(CHANNEL);
+    print_direction(rt, "Terminal to modem", to_modem, at_modem)?;
+    print_direction(rt, "Modem to terminal", to_terminal, at_terminal)?;
     print_order(rt, order, record)?;
-    print_texts(rt, order, record)?;
-    println!(rt;
-        "{}",
-        LineRule::of(record.at_modem.as_slice(), record.at_terminal.as_slice())
-    )?;
+    print_texts(rt, order, to_terminal)?;
+    let rule = LineRule::of(to_modem.passed.as_slice(), to_terminal.passed.as_slice());
+    println!(rt; "{rule}")?;
     Ok(())
 }
 
-// What became of all that one end submitted.
-fn print_submitted(
+// What became of all that went one way. What was delivered was collected by the other end's program,
+// or waits there.
+fn print_direction(
     rt: &HostRuntime,
-    direction: &str,
-    submissions: &Submissions,
-    left: u32,
-) -> Result<()> {
-    let kept = submissions.outcomes(rt.alloc())?;
-    let outcomes = kept.as_slice();
-    println!(rt;
-        "{direction}: {} submitted, {} confirmed, {} doubtful, {left} waiting.",
-        Kind::Block.of(outcomes.len()),
-        outcome_count(outcomes, Outcome::Confirmed),
-        outcome_count(outcomes, Outcome::Doubtful)
-    )?;
-    Ok(())
-}
-
-// How much of it was delivered: collected by the other end's program, or waiting there.
-fn print_collected(
-    rt: &HostRuntime,
-    direction: &str,
-    collected: usize,
+    name: &str,
+    direction: &Direction,
     there: usize,
 ) -> Result<()> {
+    let submissions = direction.outcomes(rt.alloc())?;
+    let outcomes = submissions.as_slice();
     println!(rt;
-        "{direction}: {} delivered, {collected} collected, {there} waiting there.",
+        "{name}: {} submitted, {} confirmed, {} doubtful, {} waiting.",
+        Kind::Block.of(outcomes.len()),
+        outcome_count(outcomes, Outcome::Confirmed),
+        outcome_count(outcomes, Outcome::Doubtful),
+        outcome_count(outcomes, Outcome::Waiting)
+    )?;
+    let collected = direction.collected.len();
+    println!(rt;
+        "{name}: {} delivered, {collected} collected, {there} waiting there.",
         Kind::Block.of(collected.saturating_add(there))
     )?;
     Ok(())
@@ -73,18 +63,19 @@ fn print_collected(
 
 // What the modem's program collected, against the order and the farewell.
 fn print_order(rt: &HostRuntime, order: &[u8], record: &Record) -> Result<()> {
+    let (before, after) = record.order_and_farewell();
     let expected = blocks(rt.alloc(), order)?;
-    let came = compare(expected.as_slice(), record.order.as_slice());
+    let came = compare(expected.as_slice(), before);
     let farewell = [Vec::from_slice(rt.alloc(), FAREWELL.as_bytes())?];
-    let after = compare(&farewell, record.farewell.as_slice());
+    let rest = compare(&farewell, after);
     println!(rt;
         "The order as collected, block by block: {} came once, {} lost, {} doubled.",
         came.once, came.lost, came.doubled
     )?;
     println!(rt;
         "Farewells collected: {}. Blocks changed or never submitted: {}.",
-        copies(record.farewell.as_slice(), FAREWELL.as_bytes()),
-        came.strange.saturating_add(after.strange)
+        copies(after, FAREWELL.as_bytes()),
+        came.strange.saturating_add(rest.strange)
     )?;
     let len = order.len();
     println!(rt; "{}", OrderCame { came, len })?;
@@ -92,10 +83,11 @@ fn print_order(rt: &HostRuntime, order: &[u8], record: &Record) -> Result<()> {
 }
 
 // What the terminal's program collected, against the modem's texts.
-fn print_texts(rt: &HostRuntime, order: &[u8], record: &Record) -> Result<()> {
-    let submitted = record.from_modem.blocks(rt.alloc(), order)?;
-    let came = compare(submitted.as_slice(), record.texts.as_slice());
-    let len = joined(rt.alloc(), record.texts.as_slice())?.len();
+fn print_texts(rt: &HostRuntime, order: &[u8], to_terminal: &Direction) -> Result<()> {
+    let submitted = to_terminal.blocks(rt.alloc(), order)?;
+    let collected = to_terminal.collected.as_slice();
+    let came = compare(submitted.as_slice(), collected);
+    let len = joined(rt.alloc(), collected)?.len();
     println!(rt; "{}", TextsCame { came, len })?;
     Ok(())
 }

@@ -1,5 +1,5 @@
 // What the modem's calls answer.
-use super::{CHANNEL, Session, Stage, Task};
+use super::{CHANNEL, Session, Task};
 use crate::passing::has_passed;
 use crate::words::RuleWords;
 use anyhow::Result;
@@ -13,7 +13,7 @@ impl Session<'_> {
     /// A text of the modem's program is in the store.
     pub(crate) fn modem_submitted(&mut self, name: u32) -> Result<()> {
         let cargo = self.offered;
-        self.record.from_modem.push(cargo)?;
+        self.record.to_terminal.submit(cargo)?;
         println!(self.rt;
             "Modem, submit: {}, as ({CHANNEL}, {name}).",
             Kind::Byte.of(cargo.bytes(self.text).len())
@@ -29,7 +29,7 @@ impl Session<'_> {
         wire: &[u8],
     ) -> Result<()> {
         if let Some(passed) = self.hear_byte(byte, has_passed(heard))? {
-            self.record.at_modem.push(passed)?;
+            self.record.to_modem.passed.push(passed)?;
         }
         match heard {
             Ok(None) => Ok(()),
@@ -45,12 +45,12 @@ impl Session<'_> {
         println!(self.rt; "Modem, hears: {}{fate}", RuleWords(heard))?;
         match heard.went {
             Some(Went::Confirmed(block)) => {
-                let submissions = &mut self.record.from_modem;
-                submissions.settle(block.number, Outcome::Confirmed);
+                let to_terminal = &mut self.record.to_terminal;
+                to_terminal.settle(block.number, Outcome::Confirmed);
             }
             Some(Went::Doubtful(block)) => {
-                let submissions = &mut self.record.from_modem;
-                submissions.settle(block.number, Outcome::Doubtful);
+                let to_terminal = &mut self.record.to_terminal;
+                to_terminal.settle(block.number, Outcome::Doubtful);
             }
             None => {}
         }
@@ -74,10 +74,7 @@ impl Session<'_> {
             Kind::Byte.of(len)
         )?;
         let block = Vec::from_slice(self.rt.alloc(), block.get(..len).unwrap_or(&[]))?;
-        match self.stage {
-            Stage::Farewell => self.record.farewell.push(block)?,
-            Stage::Fresh | Stage::Order | Stage::Reply => self.record.order.push(block)?,
-        }
+        self.record.to_modem.collected.push(block)?;
         Ok(())
     }
 }

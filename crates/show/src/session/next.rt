@@ -70,6 +70,7 @@ impl<'a> Session<'a> {
             }
             Stage::Reply if quiet => {
                 self.stage = Stage::Farewell;
+                self.record.before_farewell = self.record.to_modem.collected.len();
                 self.to_terminal.follow(&AFTER_FAREWELL);
                 self.terminal_submits(Cargo::Farewell)
             }

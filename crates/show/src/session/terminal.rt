@@ -53,7 +53,7 @@ impl Session<'_> {
         heard: &std::result::Result<Option<Heard>, Refusal>,
     ) -> Result<()> {
         if let Some(passed) = self.hear_byte(byte, has_passed(heard))? {
-            self.record.at_terminal.push(passed)?;
+            self.record.to_terminal.passed.push(passed)?;
         }
         match heard {
             Ok(None) => Ok(()),
@@ -69,8 +69,8 @@ impl Session<'_> {
             Heard::Received => Ok(self.tasks.push(Task::TerminalCollects)?),
             Heard::Confirmed(block) => {
                 self.room = true;
-                let submissions = &mut self.record.from_terminal;
-                submissions.settle(block.number, Outcome::Confirmed);
+                let to_modem = &mut self.record.to_modem;
+                to_modem.settle(block.number, Outcome::Confirmed);
                 Ok(())
             }
             Heard::Down(fall) => self.terminal_falls(fall),
@@ -89,9 +89,9 @@ impl Session<'_> {
             return Ok(());
         };
         self.room = true;
-        let submissions = &mut self.record.from_terminal;
-        submissions.settle(note.number(), Outcome::Doubtful);
-        match submissions.cargo(note.number()) {
+        let to_modem = &mut self.record.to_modem;
+        to_modem.settle(note.number(), Outcome::Doubtful);
+        match to_modem.cargo(note.number()) {
             Some(cargo @ Cargo::Block(_)) => {
                 self.tasks.push(Task::TerminalSubmitsAgain(cargo))?;
             }
@@ -103,7 +103,7 @@ impl Session<'_> {
     /// What was offered is in the store.
     pub(crate) fn terminal_submitted(&mut self, call: &str, name: u32) -> Result<()> {
         let cargo = self.offered;
-        self.record.from_terminal.push(cargo)?;
+        self.record.to_modem.submit(cargo)?;
         if let Cargo::Block(number) = cargo {
             self.next = self.next.max(number.saturating_add(1));
         }
@@ -138,9 +138,8 @@ impl Session<'_> {
             Kind::Byte.of(len),
             str::from_utf8(text).unwrap_or("no text.")
         )?;
-        self.record
-            .texts
-            .push(Vec::from_slice(self.rt.alloc(), text)?)?;
+        let block = Vec::from_slice(self.rt.alloc(), text)?;
+        self.record.to_terminal.collected.push(block)?;
         Ok(())
     }
 }

@@ -9,10 +9,10 @@ size : {Z : Type 0} (blocks : List (Vec ℕ Z)) → length blocks ≡ length (by
 size blocks = sym (length-map blocks vec_items)
 
 pub overflow_sub-result : goal.overflow_sub-result
-overflow_sub-result c = strange_few (bytes_of c.args.expected.now) (bytes_of c.args.collected.now) c.surplus-2.result c.strangers-strange.result c.surplus-2.ensures c.strangers-strange.ensures
+overflow_sub-result c = strange_few (bytes_of c.args.expected.now) (bytes_of c.args.collected.now) c.surplus-over.result c.strangers-strange.result c.surplus-over.ensures c.strangers-strange.ensures
 
-abbrev counts : (c : goal.After-surplus-2) → Counts (bytes_of c.args.expected.now) (bytes_of c.args.collected.now) c.come_once.result c.surplus.result c.surplus-2.result c.strangers-strange.result
-counts c = record { once_is = c.come_once.ensures; lost_is = c.surplus.ensures; over_is = c.surplus-2.ensures; strange_is = c.strangers-strange.ensures }
+abbrev counts : (c : goal.After-strangers-strange) → Counts (bytes_of c.args.expected.now) (bytes_of c.args.collected.now) c.come_once-came_once.result c.surplus-lost.result c.surplus-over.result c.strangers-strange.result
+counts c = record { once_is = c.come_once-came_once.ensures; lost_is = c.surplus-lost.ensures; over_is = c.surplus-over.ensures; strange_is = c.strangers-strange.ensures }
 
 pub returns-clause-counts : goal.returns-clause-counts
 returns-clause-counts c = counted _ _ _ _ _ _ (counts c)
