@@ -1,2 +1,5 @@
 -- Lemmas that several proofs share.
 mod Cutting
+mod Counting
+mod Compared
+mod Passing

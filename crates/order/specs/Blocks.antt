@@ -1,5 +1,5 @@
 -- The blocks of a text: as long as a block may be, and the last with what is left.
-use Rattle.std.specs.Prelude.{◌≡◌, ℕ, zero, suc, ◌+◌, ◌-◌, ◌*◌, ◌/◌, ◌≤◌, List, [], ◌∷◌, length, take, drop, Some, None, Option, slice_index_or}
+use Rattle.std.specs.Prelude.{◌≡◌, ℕ, zero, suc, ◌+◌, ◌-◌, ◌*◌, ◌/◌, ◌≤◌, List, [], ◌∷◌, map, length, take, drop, Some, None, Option, slice_index_or, Vec, vec_items}
 use Rattle.std.specs.Borrow.{Bor}
 use Rattle.std.specs.List.{flat_map}
 use Rattle.frame.specs.Frame.{longest_block}
@@ -27,3 +27,7 @@ pub record BlockAt (text : List ℕ) (k : ℕ) (b : List ℕ) : Type 0 where
 abbrev pub Blocks : List ℕ → ℕ → Option (Bor (List ℕ)) → Type 0
 Blocks text k None = (length text ≤ longest_block * k) × (length (blocks_of text) ≤ k)
 Blocks text k (Some b) = BlockAt text k b.now
+
+-- the bytes of each block
+abbrev pub bytes_of : {Z : Type 0} → List (Vec ℕ Z) → List (List ℕ)
+bytes_of blocks = map vec_items blocks

@@ -1,3 +1,7 @@
 -- What the contracts of this crate cite.
 pub mod Blocks
+pub mod Comparison
+pub mod LineRule
+pub mod Outcome
+pub mod Summary
 pub mod Words

@@ -1,8 +1,9 @@
 // The blocks that an order is sent in.
-ghost use Rattle.std.specs.Prelude.{◌≡◌, length};
-ghost use Rattle.order.specs.Blocks.{blocks_of, Whole, Blocks};
+ghost use Rattle.std.specs.Prelude.{◌≡◌, length, IfOk};
+ghost use Rattle.order.specs.Blocks.{blocks_of, bytes_of, Whole, Blocks};
 
 use frame::form::BLOCK;
+use std::alloc::{AllocError, Global};
 
 /// How many blocks a text has. One after the other they are the text.
 pub fn block_count(text: &[u8]) -> usize
@@ -21,4 +22,15 @@ pub fn block(text: &[u8], number: usize) -> Option<&[u8]>
         return None;
     }
     text[BLOCK * number..].chunks(BLOCK).next()
+}
+
+/// All blocks of a text, in order. Only memory can be wanting.
+pub fn blocks(heap: Global, text: &[u8]) -> Result<Vec<Vec<u8>>, AllocError>
+    ensures { IfOk result (λ v. bytes_of v.items ≡ blocks_of text.now) }
+{
+    let mut blocks = Vec::new(heap);
+    while let Some(bytes) = block(text, blocks.len()) {
+        blocks.push(Vec::from_slice(heap, bytes)?)?;
+    }
+    Ok(blocks)
 }

@@ -1,5 +1,9 @@
-// A provision order: cut into blocks, and numbers of its bytes and blocks in words.
+// A provision order: cut into blocks, compared with what came of it, and told in words.
 #![tactic(auto)]
 
 pub mod blocks;
+pub mod comparison;
+pub mod line_rule;
+pub mod outcome;
+pub mod summary;
 pub mod words;

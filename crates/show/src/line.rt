@@ -1,5 +1,7 @@
-// The line from one end to the other: it takes a frame as it was written, and brings what the script makes of it.
+// The line from one end to the other: it takes a frame as it was written, and brings what the
+// script makes of it.
 use crate::script::Fate;
+use order::line_rule::Passed;
 use std::alloc::{AllocError, Global};
 
 // Bytes that start no frame, a single AA among them.
@@ -11,11 +13,38 @@ const FALSE_START: [u8; 3] = [0xaa, 0xaa, 0x71];
 // The place of the byte that is damaged: behind the start, in the shortest frame too.
 const DAMAGED: usize = 5;
 
-/// What an end hears of one frame, and the frame's place among all that the other end has written.
+/// What comes of one frame.
 #[derive(Drop)]
 pub struct Passage {
+    /// The bytes that the line brings.
     pub bytes: Vec<u8>,
-    pub place: usize,
+    // those that the end has heard by now
+    heard: Vec<u8>,
+    // the frame as it was written, and its place among all that the other end has written
+    frame: Vec<u8>,
+    place: usize,
+}
+
+impl Passage {
+    /// The end has heard a byte.
+    pub fn hear(&mut self, byte: u8) -> Result<(), AllocError> {
+        self.heard.push(byte)?;
+        Ok(())
+    }
+
+    /// A frame that passed with the byte that was heard last.
+    pub fn passed(&self) -> Passed {
+        Passed::new(self.place, self.heard.as_slice(), self.frame.as_slice())
+    }
+
+    fn copy(&self) -> Result<Passage, AllocError> {
+        Ok(Passage {
+            bytes: self.bytes.clone()?,
+            heard: self.heard.clone()?,
+            frame: self.frame.clone()?,
+            place: self.place,
+        })
+    }
 }
 
 /// One direction of the line.
@@ -50,27 +79,28 @@ impl Line {
     /// Takes a frame, and brings what comes to the other end's ear by then, in order.
     pub fn carry(&mut self, heap: Global, wire: &[u8]) -> Result<Vec<Passage>, AllocError> {
         let fate = self.fate();
-        let place = self.written;
-        let bytes = altered(heap, fate, wire)?;
+        let passage = Passage {
+            bytes: altered(heap, fate, wire)?,
+            heard: Vec::new(heap),
+            frame: Vec::from_slice(heap, wire)?,
+            place: self.written,
+        };
         self.script = self.script.get(1..).unwrap_or(&[]);
-        self.written = place.saturating_add(1);
+        self.written = self.written.saturating_add(1);
         let mut came = Vec::new(heap);
         if let Some(late) = self.late.take() {
             came.push(late)?;
         }
         match fate {
             Fate::Lost => {}
-            Fate::Late => self.late = Some(Passage { bytes, place }),
+            Fate::Late => self.late = Some(passage),
             Fate::Twice => {
-                let once_more = bytes.clone()?;
-                came.push(Passage { bytes, place })?;
-                came.push(Passage {
-                    bytes: once_more,
-                    place,
-                })?;
+                let once_more = passage.copy()?;
+                came.push(passage)?;
+                came.push(once_more)?;
             }
             Fate::Clear | Fate::Noise | Fate::FalseStart | Fate::Damaged | Fate::Cut => {
-                came.push(Passage { bytes, place })?;
+                came.push(passage)?;
             }
         }
         Ok(came)

@@ -1,27 +1,33 @@
-// An order goes from the terminal to the modem over a line with noise, loss and repeats, and the modem's side replies. What each
-// call answers is told in words, and at the end what became of every block.
+// An order goes from the terminal to the modem over a line with noise, loss and repeats, and the
+// modem's side replies. What each call answers is told in words, and at the end what became of every
+// block.
 #![tactic(auto)]
 
 mod cargo;
 mod line;
 mod own;
+mod passing;
+mod record;
 mod script;
 mod session;
+mod sheet;
 mod words;
 
 use crate::session::{CHANNEL, Session};
 use anyhow::{Result, anyhow};
-use host::note::DoubtNote;
-use link::call::Stores;
-use link::pair::Pair;
+use frame::form::BLOCK;
+use host::host::Host;
+use link::pair::{Ends, Stores};
 use order::blocks::block_count;
 use order::words::Kind;
 use shelf::Shelf;
-use std::alloc::Global;
 use std::io;
 use std::io::Read;
 use store::Store;
+use strip::refusal::check;
 use strip::{RECORD, Strip};
+use tnc::tnc::Tnc;
+use wire::writer::WIRE;
 
 // How often the terminal repeats a frame.
 const REPEATS: u8 = 3;
@@ -40,14 +46,18 @@ fn main(rt: HostRuntime) -> Result<()> {
     let mut modem_area = [0; AREA];
     let mut stores = Stores {
         host_out: Shelf::new(),
-        host_in: strip_over(&mut terminal_area)?,
-        tnc_out: strip_over(&mut modem_area)?,
+        host_in: strip_in(&mut terminal_area)?,
+        tnc_out: strip_in(&mut modem_area)?,
         tnc_in: Shelf::new(),
     };
-    let mut pair = pair_of(rt.alloc())?;
+    let mut ends = Ends {
+        host: host()?,
+        tnc: Tnc::new(),
+    };
     let mut session = Session::new(&rt, text.as_slice());
-    play(&mut pair, &mut stores, &mut session)?;
-    session.sheet(&pair, &stores)
+    play(&mut ends, &mut stores, &mut session);
+    let record = session.finish()?;
+    sheet::print(&rt, text.as_slice(), &record, &stores)
 }
 
 // The order from standard input, or one of our own.
@@ -60,41 +70,34 @@ fn order_text(rt: &HostRuntime) -> io::Result<Vec<u8>> {
     Ok(text)
 }
 
-fn strip_over(area: &mut [u8]) -> Result<Strip<'_>> {
-    match Strip::over(area) {
-        Ok(strip) => Ok(strip),
+fn strip_in(area: &mut [u8]) -> Result<Strip<'_>> {
+    match check(area) {
+        Ok(()) => Ok(Strip::new(area)),
         Err(refusal) => Err(anyhow!("no strip is made: refusal {}", refusal.number())),
     }
 }
 
-fn pair_of(heap: Global) -> Result<Pair> {
-    match Pair::new(heap, REPEATS) {
-        Ok(pair) => Ok(pair),
-        Err(refusal) => Err(anyhow!("no pair is made: refusal {}", refusal.number())),
+fn host() -> Result<Host> {
+    match Host::new(REPEATS) {
+        Ok(host) => Ok(host),
+        Err(refusal) => Err(anyhow!("no host is made: refusal {}", refusal.number())),
     }
 }
 
-// Plays what the session calls for, a list of calls after the other, until it calls for nothing more.
+// Plays what the session calls for, a list of calls after the other, until it calls for nothing
+// more.
 fn play<A: Store, B: Store, C: Store, D: Store>(
-    pair: &mut Pair,
+    ends: &mut Ends,
     stores: &mut Stores<A, B, C, D>,
     session: &mut Session<'_>,
-) -> Result<()> {
-    let mut held = None;
+) {
+    let mut wire = [0; WIRE];
+    let mut block = [0; BLOCK];
     for _ in 0..u64::MAX {
-        let calls = session.next_calls(pair);
+        let calls = session.next_calls(ends);
         if calls.is_empty() {
             break;
         }
-        let note = pair.play(stores, held, calls.as_slice(), session);
-        held = session.settle(note);
-    }
-    write_off(held);
-    session.outcome()
-}
-
-fn write_off(held: Option<DoubtNote>) {
-    if let Some(note) = held {
-        note.write_off();
+        ends.play(stores, &mut wire, &mut block, calls.as_slice(), session);
     }
 }

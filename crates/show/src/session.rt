@@ -1,15 +1,15 @@
-// A session of terminal and modem: the programs at both ends, and the line between them. It says which calls are made next, and
-// takes what they answer.
+// A session of terminal and modem: the programs at both ends, and the line between them. It says
+// which calls are made next, and takes what they answer.
 use crate::cargo::Cargo;
 use crate::line::{Line, Passage};
+use crate::record::Record;
 use crate::script::{TO_MODEM, TO_TERMINAL};
 use anyhow::Error;
+use host::note::DoubtNote;
 
 pub mod answers;
-pub mod compared;
 pub mod modem;
 pub mod next;
-pub mod sheet;
 pub mod terminal;
 
 /// The channel that all blocks go by.
@@ -40,7 +40,6 @@ enum Task {
 }
 
 /// The programs at both ends, at work on an order.
-#[derive(Drop)]
 pub struct Session<'a> {
     rt: &'a HostRuntime,
     text: &'a [u8],
@@ -55,11 +54,14 @@ pub struct Session<'a> {
     room: bool,
     // the block of which it was told last that it has to wait
     told: Option<usize>,
-    // what the terminal's program submits with the calls that are made
+    // what is submitted with the calls that are made
     offered: Cargo,
-    // what each submission of the terminal carries, by its number on the channel
-    carried: Vec<Cargo>,
-    // whether the note that is held is to be written off
+    // what is heard with them
+    hearing: Option<Passage>,
+    record: Record,
+    // the note of a block that is to be submitted again
+    held: Option<DoubtNote>,
+    // whether the next note is written off
     gives_up: bool,
     // why nothing more can be told or done
     failed: Option<Error>,
@@ -78,23 +80,40 @@ impl<'a> Session<'a> {
             next: 0,
             room: true,
             told: None,
-            offered: Cargo::Farewell,
-            carried: Vec::new(rt.alloc()),
+            offered: Cargo::Greeting,
+            hearing: None,
+            record: Record::new(rt.alloc()),
+            held: None,
             gives_up: false,
             failed: None,
         }
     }
 
-    // What a submission of the terminal carries.
-    fn carried_by(&self, name: u32) -> Option<Cargo> {
-        let place = usize::try_from(name).ok()?.checked_sub(1)?;
-        self.carried.get(place).copied()
-    }
-
-    /// How it ended.
-    pub fn outcome(&mut self) -> anyhow::Result<()> {
-        match self.failed.take() {
-            None => Ok(()),
+    /// The record of the run, or why the session could not go on. A note that is held is written
+    /// off.
+    pub fn finish(self) -> anyhow::Result<Record> {
+        let Session {
+            record,
+            held,
+            failed,
+            rt: _,
+            text: _,
+            to_modem: _,
+            to_terminal: _,
+            stage: _,
+            tasks: _,
+            next: _,
+            room: _,
+            told: _,
+            offered: _,
+            hearing: _,
+            gives_up: _,
+        } = self;
+        if let Some(note) = held {
+            note.write_off();
+        }
+        match failed {
+            None => Ok(record),
             Some(error) => Err(error),
         }
     }

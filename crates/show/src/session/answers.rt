@@ -1,88 +1,109 @@
 // What becomes of each answer: it is told in words, and may ask for something to be done.
+ghost use Rattle.std.specs.Prelude.{⊤};
+
 use super::{CHANNEL, Session};
-use crate::words::{refusal_words, tell_dropped, tell_refused};
+use crate::words::{DroppedWords, RefusalWords};
 use anyhow::{Error, Result, bail};
 use ends::refusal::Refusal;
 use host::note::DoubtNote;
-use link::call::{Answer, Call};
-use link::pair::playing::{Buffers, Watch};
+use link::event::Event;
+use link::observer::Observer;
+use order::line_rule::Passed;
 
-impl Watch for Session<'_> {
-    fn saw(&mut self, call: &Call, answer: &Answer, buffers: &Buffers) {
+impl Observer for Session<'_> {
+    ghost gives = { λ _ _ _. ⊤ };
+
+    ghost sees = { λ _ _ _ _ _. ⊤ };
+
+    fn note(&mut self) -> Option<DoubtNote> {
+        std::mem::replace(&mut self.held, None)
+    }
+
+    fn observe(&mut self, event: Event, wire: &[u8], block: &[u8]) {
         if self.failed.is_none() {
-            self.failed = self.take(call, answer, buffers).err();
+            self.failed = self.take(&event, wire, block).err();
+        }
+        if let Some(note) = event.note() {
+            self.keep(note);
         }
     }
 }
 
 impl Session<'_> {
-    fn take(&mut self, call: &Call, answer: &Answer, buffers: &Buffers) -> Result<()> {
-        match answer {
-            Answer::Opened(Ok(sent)) => self.terminal_sends("open", "reset", *sent, &buffers.wire),
-            Answer::Opened(Err(refusal)) => no_way_on("open", *refusal),
-            Answer::Stepped(Ok(stepped)) => self.terminal_stepped(*stepped, &buffers.wire),
-            Answer::Stepped(Err(refusal)) => no_way_on("step", *refusal),
-            Answer::Timed(Ok(timed)) => self.terminal_timed(timed, &buffers.wire),
-            Answer::Timed(Err(refusal)) => no_way_on("timer", *refusal),
-            Answer::HostHeard(Ok(Some(heard))) => self.terminal_meets(heard),
-            Answer::HostHeard(Err(refusal)) => Ok(tell_dropped(self.rt, "Terminal", *refusal)?),
-            Answer::HostSubmitted(Ok(name)) => self.terminal_submitted("submit", *name),
-            Answer::HostSubmitted(Err(refusal)) => self.terminal_waits(*refusal),
-            Answer::SubmittedAgain(Ok(name)) => self.terminal_submitted("submit again", *name),
-            Answer::SubmittedAgain(Err(returned)) => {
+    fn take(&mut self, event: &Event, wire: &[u8], block: &[u8]) -> Result<()> {
+        match event {
+            Event::HostOpen(Ok(sent)) => self.terminal_sends("open", "reset", *sent, wire),
+            Event::HostOpen(Err(refusal)) => no_way_on("open", *refusal),
+            Event::HostStep(Ok(stepped)) => self.terminal_stepped(*stepped, wire),
+            Event::HostStep(Err(refusal)) => no_way_on("step", *refusal),
+            Event::HostTimer(Ok(timed)) => self.terminal_timed(timed, wire),
+            Event::HostTimer(Err(refusal)) => no_way_on("timer", *refusal),
+            Event::HostHear(byte, heard) => self.terminal_hears(*byte, heard),
+            Event::HostSubmit(_, _, Ok(name)) => self.terminal_submitted("submit", *name),
+            Event::HostSubmit(_, _, Err(refusal)) => self.terminal_waits(*refusal),
+            Event::HostSubmitAgain(_, _, _, Ok(name)) => {
+                self.terminal_submitted("submit again", *name)
+            }
+            Event::HostSubmitAgain(_, _, _, Err(returned)) => {
                 self.gives_up = true;
-                Ok(tell_refused(self.rt, "Terminal, submit again", returned.refusal)?)
+                self.tell_refused("Terminal, submit again", returned.refusal)
             }
-            Answer::HostCollected(Ok(len)) => self.terminal_collected(*len, &buffers.block),
-            Answer::HostCollected(Err(refusal)) => {
-                Ok(tell_refused(self.rt, "Terminal, collect", *refusal)?)
-            }
-            Answer::TncHeard(Ok(Some(heard))) => self.modem_meets(*heard, &buffers.wire),
-            Answer::TncHeard(Err(refusal)) => Ok(tell_dropped(self.rt, "Modem", *refusal)?),
-            Answer::TncSubmitted(Ok(name)) => self.modem_submitted(length_handed(call), *name),
-            Answer::TncSubmitted(Err(refusal)) => no_way_on("submit", *refusal),
-            Answer::TncCollected(Ok(len)) => self.modem_collected(*len),
-            Answer::TncCollected(Err(refusal)) => {
-                Ok(tell_refused(self.rt, "Modem, collect", *refusal)?)
-            }
-            Answer::HostHeard(Ok(None)) | Answer::TncHeard(Ok(None)) | Answer::NoNote => Ok(()),
+            Event::HostCollect(_, Ok(len)) => self.terminal_collected(*len, block),
+            Event::HostCollect(_, Err(refusal)) => self.tell_refused("Terminal, collect", *refusal),
+            Event::TncHear(byte, heard) => self.modem_hears(*byte, heard, wire),
+            Event::TncSubmit(_, _, Ok(name)) => self.modem_submitted(*name),
+            Event::TncSubmit(_, _, Err(refusal)) => no_way_on("submit", *refusal),
+            Event::TncCollect(_, Ok(len)) => self.modem_collected(*len, block),
+            Event::TncCollect(_, Err(refusal)) => self.tell_refused("Modem, collect", *refusal),
+            Event::NoNote(_) => Ok(()),
         }
     }
 
-    /// The note that is held on. One whose block is given up is written off.
-    pub fn settle(&mut self, held: Option<DoubtNote>) -> Option<DoubtNote> {
-        let note = held?;
-        if !self.gives_up {
-            return Some(note);
+    // A note is held until its block is submitted again. One whose block is given up is written
+    // off, and so is one that is still held when the next comes.
+    fn keep(&mut self, note: DoubtNote) {
+        let old = if self.gives_up {
+            self.gives_up = false;
+            Some(note)
+        } else {
+            std::mem::replace(&mut self.held, Some(note))
+        };
+        if let Some(old) = old {
+            self.write_off(old);
         }
-        self.gives_up = false;
+    }
+
+    fn write_off(&mut self, note: DoubtNote) {
         let number = note.number();
         note.write_off();
         let told = println!(self.rt; "Terminal, write off: its block ({CHANNEL}, {number}).");
         if self.failed.is_none() {
             self.failed = told.err().map(Error::from);
         }
-        None
     }
-}
 
-// How long the block is that a call hands over.
-fn length_handed(call: &Call) -> usize {
-    match call {
-        Call::HostSubmit { channel: _, block } => block.len(),
-        Call::HostSubmitAgain { block } => block.len(),
-        Call::TncSubmit { channel: _, block } => block.len(),
-        Call::HostOpen
-        | Call::HostStep
-        | Call::HostTimer
-        | Call::HostHear { byte: _, place: _ }
-        | Call::HostCollect { channel: _ }
-        | Call::TncHear { byte: _, place: _ }
-        | Call::TncCollect { channel: _ } => 0,
+    // An end heard a byte of what the line brings. If a frame passed with it: which the line was
+    // bringing, and whether it had just come whole.
+    pub(crate) fn hear_byte(&mut self, byte: u8, has_passed: bool) -> Result<Option<Passed>> {
+        let Some(passage) = &mut self.hearing else {
+            bail!("a byte is heard that the line did not bring");
+        };
+        passage.hear(byte)?;
+        Ok(has_passed.then(|| passage.passed()))
+    }
+
+    fn tell_refused(&self, call: &str, refusal: Refusal) -> Result<()> {
+        println!(self.rt; "{call}: {}", RefusalWords(refusal))?;
+        Ok(())
+    }
+
+    pub(crate) fn tell_dropped(&self, end: &str, refusal: Refusal) -> Result<()> {
+        println!(self.rt; "{end}, hears: {}", DroppedWords(refusal))?;
+        Ok(())
     }
 }
 
 // A call that the session makes only where it is granted.
 fn no_way_on(call: &str, refusal: Refusal) -> Result<()> {
-    bail!("{call} is refused: {}", refusal_words(refusal))
+    bail!("{call} is refused: {}", RefusalWords(refusal))
 }

@@ -2,24 +2,23 @@
 use super::{CHANNEL, Session, Stage, Task};
 use crate::cargo::Cargo;
 use crate::line::Passage;
-use crate::own::{GREETING, REPLY};
 use crate::script::AFTER_FAREWELL;
 use host::host::State;
 use link::call::Call;
-use link::pair::Pair;
+use link::pair::Ends;
 use order::blocks::block_count;
 use std::alloc::{AllocError, Global};
 
 impl<'a> Session<'a> {
     /// The calls that are made next, in order; none at the end, or where nothing more can be done.
-    pub fn next_calls(&mut self, pair: &Pair) -> Vec<Call<'a>> {
+    pub fn next_calls(&mut self, ends: &Ends) -> Vec<Call<'a>> {
         let heap = self.rt.alloc();
         if self.failed.is_some() {
             return Vec::new(heap);
         }
         let calls = match self.tasks.pop() {
             Some(task) => self.calls_of(task),
-            None => self.own_calls(pair),
+            None => self.own_calls(ends),
         };
         match calls {
             Ok(calls) => calls,
@@ -32,79 +31,77 @@ impl<'a> Session<'a> {
 
     fn calls_of(&mut self, task: Task) -> Result<Vec<Call<'a>>, AllocError> {
         let heap = self.rt.alloc();
-        let channel = CHANNEL;
         match task {
-            Task::ModemHears(passage) => modem_hears(heap, &passage),
-            Task::ModemCollects => one(heap, Call::TncCollect { channel }),
-            Task::TerminalHears(passage) => terminal_hears(heap, &passage),
-            Task::TerminalCollects => one(heap, Call::HostCollect { channel }),
+            Task::ModemHears(passage) => {
+                let calls = modem_hears(heap, passage.bytes.as_slice());
+                self.hearing = Some(passage);
+                calls
+            }
+            Task::ModemCollects => one(heap, Call::TncCollect(CHANNEL)),
+            Task::TerminalHears(passage) => {
+                let calls = terminal_hears(heap, passage.bytes.as_slice());
+                self.hearing = Some(passage);
+                calls
+            }
+            Task::TerminalCollects => one(heap, Call::HostCollect(CHANNEL)),
             Task::TerminalSubmitsAgain(cargo) => {
                 self.offered = cargo;
-                let block = cargo.bytes(self.text);
-                one(heap, Call::HostSubmitAgain { block })
+                one(heap, Call::HostSubmitAgain(cargo.bytes(self.text)))
             }
         }
     }
 
-    // What the programs call for where no answer is to be heard: submits as long as there is room, the next stage where this one is
-    // through, and else what the terminal's state allows.
-    fn own_calls(&mut self, pair: &Pair) -> Result<Vec<Call<'a>>, AllocError> {
+    // What the programs call for where no answer is to be heard: submits as long as there is room,
+    // the next stage where this one is through, and else what the terminal's state allows.
+    fn own_calls(&mut self, ends: &Ends) -> Result<Vec<Call<'a>>, AllocError> {
         let heap = self.rt.alloc();
-        let quiet = self.is_quiet(pair);
+        let quiet = self.is_quiet(ends);
         match self.stage {
             Stage::Fresh => {
                 self.stage = Stage::Order;
-                self.modem_says(GREETING)
+                self.modem_submits(Cargo::Greeting)
             }
             Stage::Order if self.room && self.next < block_count(self.text) => {
-                self.submit(Cargo::Block(self.next))
+                self.terminal_submits(Cargo::Block(self.next))
             }
             Stage::Order if quiet => {
                 self.stage = Stage::Reply;
-                self.modem_says(REPLY)
+                self.modem_submits(Cargo::Reply)
             }
             Stage::Reply if quiet => {
                 self.stage = Stage::Farewell;
+                self.record.before_farewell = self.record.to_modem.collected.len();
                 self.to_terminal.follow(&AFTER_FAREWELL);
-                self.submit(Cargo::Farewell)
+                self.terminal_submits(Cargo::Farewell)
             }
             Stage::Farewell if quiet => Ok(Vec::new(heap)),
-            Stage::Order | Stage::Reply | Stage::Farewell => one(heap, act(pair)),
+            Stage::Order | Stage::Reply | Stage::Farewell => one(heap, act(ends)),
         }
     }
 
     // Whether all was submitted, nothing waits at either end, and no frame is unanswered.
-    fn is_quiet(&self, pair: &Pair) -> bool {
-        let idle = matches!(pair.host().state(), State::Idle);
-        let sent = self.next == block_count(self.text) && pair.host().waiting(CHANNEL) == 0;
-        idle && sent && pair.tnc().waiting(CHANNEL) == 0
+    fn is_quiet(&self, ends: &Ends) -> bool {
+        let idle = matches!(ends.host.state(), State::Idle);
+        let sent = self.next == block_count(self.text) && ends.host.waiting(CHANNEL) == 0;
+        idle && sent && ends.tnc.waiting(CHANNEL) == 0
     }
 
-    fn submit(&mut self, cargo: Cargo) -> Result<Vec<Call<'a>>, AllocError> {
+    fn terminal_submits(&mut self, cargo: Cargo) -> Result<Vec<Call<'a>>, AllocError> {
         self.offered = cargo;
-        one(
-            self.rt.alloc(),
-            Call::HostSubmit {
-                channel: CHANNEL,
-                block: cargo.bytes(self.text),
-            },
-        )
+        let call = Call::HostSubmit(CHANNEL, cargo.bytes(self.text));
+        one(self.rt.alloc(), call)
     }
 
-    fn modem_says(&self, text: &'static str) -> Result<Vec<Call<'a>>, AllocError> {
-        one(
-            self.rt.alloc(),
-            Call::TncSubmit {
-                channel: CHANNEL,
-                block: text.as_bytes(),
-            },
-        )
+    fn modem_submits(&mut self, cargo: Cargo) -> Result<Vec<Call<'a>>, AllocError> {
+        self.offered = cargo;
+        let call = Call::TncSubmit(CHANNEL, cargo.bytes(self.text));
+        one(self.rt.alloc(), call)
     }
 }
 
 // The call that the terminal's state allows.
-fn act<'a>(pair: &Pair) -> Call<'a> {
-    match pair.host().state() {
+fn act<'a>(ends: &Ends) -> Call<'a> {
+    match ends.host.state() {
         State::Fresh | State::Down => Call::HostOpen,
         State::Idle => Call::HostStep,
         State::Opening(_) | State::OnItsWay(_) => Call::HostTimer,
@@ -117,20 +114,18 @@ fn one(heap: Global, call: Call<'_>) -> Result<Vec<Call<'_>>, AllocError> {
     Ok(calls)
 }
 
-fn modem_hears<'a>(heap: Global, passage: &Passage) -> Result<Vec<Call<'a>>, AllocError> {
-    let place = passage.place;
+fn modem_hears<'a>(heap: Global, bytes: &[u8]) -> Result<Vec<Call<'a>>, AllocError> {
     let mut calls = Vec::new(heap);
-    for byte in passage.bytes.as_slice() {
-        calls.push(Call::TncHear { byte: *byte, place })?;
+    for byte in bytes {
+        calls.push(Call::TncHear(*byte))?;
     }
     Ok(calls)
 }
 
-fn terminal_hears<'a>(heap: Global, passage: &Passage) -> Result<Vec<Call<'a>>, AllocError> {
-    let place = passage.place;
+fn terminal_hears<'a>(heap: Global, bytes: &[u8]) -> Result<Vec<Call<'a>>, AllocError> {
     let mut calls = Vec::new(heap);
-    for byte in passage.bytes.as_slice() {
-        calls.push(Call::HostHear { byte: *byte, place })?;
+    for byte in bytes {
+        calls.push(Call::HostHear(*byte))?;
     }
     Ok(calls)
 }

@@ -1,0 +1,15 @@
+-- The blocks that pass the test are counted.
+use Rattle.std.proofs.Common.{sym, ◌∙◌, rules, tests, vec_items}
+use Rattle.std.proofs.lemmas.Iterator.{YieldsList-from_slice}
+use Rattle.std.proofs.lemmas.Iterator.Consumers.{YieldsList-from_filter, count_from_yields_List}
+use Rattle.std.proofs.lemmas.List.Sums.{length-filter}
+use Rattle.order.specs.Blocks.{bytes_of}
+use Rattle.order.specs.Comparison.{is_strange}
+use Rattle.order.proofs.Counting.{count_by-map}
+use Rattle.order.proofs.comparison.strangers.Goals as goal
+
+pub returns : goal.returns
+returns c =
+    let test = is_strange (bytes_of c.args.others.now) in
+    count_from_yields_List c.filter.result _ c.count.ensures.ran (YieldsList-from_filter _ (λ v. test (vec_items v)) (YieldsList-from_slice c.args.blocks.now cc) c.filter.ensures.closure (λ x r q k. search (rules, tests)))
+    ∙ length-filter (λ v. test (vec_items v)) c.args.blocks.now ∙ sym (count_by-map vec_items test c.args.blocks.now)

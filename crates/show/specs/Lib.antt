@@ -1,0 +1,3 @@
+-- What the contracts of this program cite.
+pub mod Passing
+pub mod Words
