@@ -2,7 +2,7 @@
 // definitions in specs/Told.antt, and it changes what the end's own call changes. Only a call that may hand out a doubt note can
 // fail: it takes the memory to keep the note first, and where there is none, nothing has changed.
 ghost use Rattle.std.specs.Prelude.{◌≡◌, ◌<◌, min, nat_lt, length, if◌then◌else◌, is_ok, Some, IfOk, OnOk, OnErr, MatchOption, vec_len, vec_capacity};
-ghost use Rattle.store.specs.Meaning.{Meaning, plain, empty};
+ghost use Rattle.store.specs.Meaning.{Meaning, plain};
 ghost use Rattle.store.specs.Rules.{copy_source, written_over};
 ghost use Rattle.wire.specs.Wire.{longest_wire};
 ghost use Rattle.reader.specs.Read.{fresh, hears};
@@ -19,7 +19,7 @@ ghost use Rattle.tnc.specs.Hear as tnc_rules;
 ghost use Rattle.tnc.specs.Left as tnc_left;
 ghost use Rattle.replay.specs.AnyStore.{meaning_of};
 ghost use Rattle.replay.specs.Notes.{unspent_of, next_number, note_of, with_note, without, timed_doubt, rule_doubt, heard_doubt};
-ghost use Rattle.replay.specs.Settings.{limit_chosen};
+ghost use Rattle.replay.specs.Settings.{IsNewStore};
 ghost use Rattle.replay.specs.Told.{open_told, step_told, fall_told, timer_told, rule_told, hear_told, tnc_told, submit_told, collect_told};
 
 use crate::any_store::AnyStore;
@@ -53,10 +53,10 @@ impl<'a> Session<'a> {
         ensures host { result.host ≡ host }
         ensures tnc { tnc_of result.tnc.link ≡ new_tnc }
         ensures ear { heard_by result.tnc.ear ≡ fresh Direction.FromHost }
-        ensures host_out { meaning_of result.host_out ≡ empty (limit_chosen choices.old.host_out) }
-        ensures host_in { meaning_of result.host_in ≡ empty (limit_chosen choices.old.host_in) }
-        ensures tnc_out { meaning_of result.tnc_out ≡ empty (limit_chosen choices.old.tnc_out) }
-        ensures tnc_in { meaning_of result.tnc_in ≡ empty (limit_chosen choices.old.tnc_in) }
+        ensures host_out { IsNewStore choices.old.host_out result.host_out }
+        ensures host_in { IsNewStore choices.old.host_in result.host_in }
+        ensures tnc_out { IsNewStore choices.old.tnc_out result.tnc_out }
+        ensures tnc_in { IsNewStore choices.old.tnc_in result.tnc_in }
     {
         let Choices {
             host_out,
