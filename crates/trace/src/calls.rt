@@ -44,11 +44,17 @@ impl<W: Write + Drop> Caller<'_, '_, W> {
 
     /// The script is through: what is told at the end, and the status of the program. The notes that are not spent are told as
     /// written off, which is left to whoever has them.
-    pub fn close(mut self) -> io::Result<ExitCode> {
-        for line in self.session.final_lines(self.alloc, self.notes)?.iter() {
-            self.teller.tell(*line)?;
+    pub fn close(self) -> io::Result<ExitCode> {
+        let Caller {
+            alloc,
+            session,
+            notes,
+            mut teller,
+        } = self;
+        for line in session.final_lines(alloc, notes)?.iter() {
+            teller.tell(*line)?;
         }
-        self.teller.finish()
+        teller.finish()
     }
 
     // What one line says.
