@@ -50,12 +50,16 @@ channel_lines end h t = filter_map (channel_line end h t) channels
 
 -- a note that is not spent, by its block and its number
 abbrev pub doubt_kept : Kept → Doubt
-doubt_kept k = record { block = record { channel = k.note.channel; number = k.note.number }; note = k.number }
+doubt_kept k = record {
+  block = record { channel = k.note.channel; number = k.note.number };
+  note = k.number;
+}
 
 abbrev pub note_line : Kept → FinalLine
 note_line k = WrittenOff (doubt_kept k)
 
--- all of it: where the host stands, the channels of the host and of the TNC, and the notes, the oldest first
+-- all of it: where the host stands, the channels of the host and of the TNC, and the notes, the
+-- oldest first
 abbrev pub final_lines : State → model.Host → Tnc → Unspent → List FinalLine
 final_lines s h t notes =
     HostStands (stand_of s)
@@ -85,4 +89,5 @@ abbrev pub final_words : FinalLine → List ℕ
 final_words (HostStands s) = codes "end host " ++ stand_word s
 final_words (Channel end t) = codes "end " ++ (end_word end ++ (codes " " ++ tally_words t))
 final_words (WrittenOff d) =
-    codes "end note " ++ (decimal d.note ++ (codes " " ++ (block_words d.block ++ codes " written off")))
+    codes "end note " ++ (decimal d.note
+    ++ (codes " " ++ (block_words d.block ++ codes " written off")))

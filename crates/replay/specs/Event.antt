@@ -1,4 +1,5 @@
--- How it is told what came of a call or of a byte: one definition for each answer gives every case its words.
+-- How it is told what came of a call or of a byte: one definition for each answer gives every case
+-- its words.
 use Rattle.std.specs.Prelude.{ℕ, List, [], ◌++◌, take, codes, decimal, Option, Some, None}
 use Rattle.hex.specs.Hex.{encode_upper}
 use Rattle.reader.specs.Fault.{fault_number}
@@ -65,14 +66,16 @@ went_words (Some (Doubtful b)) = codes " doubtful " ++ block_words b
 
 abbrev pub doubt_words : Option Doubt → List ℕ
 doubt_words None = []
-doubt_words (Some d) = codes " doubtful " ++ (block_words d.block ++ (codes " note " ++ decimal d.note))
+doubt_words (Some d) =
+    codes " doubtful " ++ (block_words d.block ++ (codes " note " ++ decimal d.note))
 
 -- a refusal by its number; a fault of the reader with its count
 abbrev pub refused_words : ℕ → List ℕ
 refused_words n = codes "refused " ++ decimal n
 
 abbrev pub refusal_words : Refusal → List ℕ
-refusal_words (refusal.Reader f) = codes "fault " ++ (decimal (fault_number f.reason) ++ (codes " count " ++ decimal f.count))
+refusal_words (refusal.Reader f) =
+    codes "fault " ++ (decimal (fault_number f.reason) ++ (codes " count " ++ decimal f.count))
 refusal_words r = refused_words (refusal_number r)
 
 -- so many bytes of a buffer, from its start

@@ -59,19 +59,24 @@ chosen_at place.TncIn c = c.tnc_in
 -- what a granted set-up leaves
 abbrev pub SetUp : Setup → Settings → Settings → Type 0
 SetUp (setup.Repeats n) old new =
-    (host_of new.host.link ≡ new_host n) × (heard_by new.host.ear ≡ fresh FromTnc) × (new.choices ≡ old.choices)
-SetUp (setup.Shelf p) old new = (new.host ≡ old.host) × (new.choices ≡ choose p choice.Shelf old.choices)
+    (host_of new.host.link ≡ new_host n) × (heard_by new.host.ear ≡ fresh FromTnc)
+    × (new.choices ≡ old.choices)
+SetUp (setup.Shelf p) old new =
+    (new.host ≡ old.host) × (new.choices ≡ choose p choice.Shelf old.choices)
 SetUp (setup.Strip p n) old new =
-    (new.host ≡ old.host) × (new.choices ≡ choose p (chosen_at p new.choices) old.choices)
+    (new.host ≡ old.host)
+    × (new.choices ≡ choose p (chosen_at p new.choices) old.choices)
     × (area_chosen (chosen_at p new.choices) ≡ Some (zeros n))
 
 -- why one is not granted
 abbrev pub NotSetUp : Setup → SetupError → Type 0
 NotSetUp (setup.Repeats n) e = (most_repeats < n) × (e ≡ error.Repeats ManyRepeats)
 NotSetUp (setup.Shelf p) e = ⊥
-NotSetUp (setup.Strip p n) e = (e ≡ error.NoMemory) ⊎ ((e ≡ error.Store p BadSize) × (area.check_answer n ≡ Err BadSize))
+NotSetUp (setup.Strip p n) e =
+    (e ≡ error.NoMemory) ⊎ ((e ≡ error.Store p BadSize) × (area.check_answer n ≡ Err BadSize))
 
 abbrev pub error_words : SetupError → List ℕ
 error_words (error.Repeats r) = codes "repeats refused " ++ decimal (refusal_number r)
-error_words (error.Store p r) = codes "store " ++ (place_name p ++ (codes " refused " ++ decimal (area.refusal_number r)))
+error_words (error.Store p r) =
+    codes "store " ++ (place_name p ++ (codes " refused " ++ decimal (area.refusal_number r)))
 error_words error.NoMemory = codes "there is no memory for it"

@@ -26,7 +26,10 @@ step_told (Err e) = event.Refused e
 
 -- the link went down; the note for the block, if there is one, gets the next number
 abbrev pub doubt_noted : ℕ → DoubtNote → Doubt
-doubt_noted next d = record { block = record { channel = d.channel; number = d.number }; note = next }
+doubt_noted next d = record {
+  block = record { channel = d.channel; number = d.number };
+  note = next;
+}
 
 abbrev pub fall_told : ℕ → Fall → Event
 fall_told next f = event.Down f.cause (option_map (doubt_noted next) f.doubt)

@@ -87,7 +87,8 @@ impl<'a> Session<'a> {
     }
 
     pub fn host_open(&mut self, wire: &mut [u8]) -> Event
-        ensures told { result ≡ open_told (open_answer (host_of self.old.host.link) (length wire.old)) }
+        ensures told { result ≡
+            open_told (open_answer (host_of self.old.host.link) (length wire.old)) }
         ensures after { (out inn : Meaning) →
             Left (open_call (length wire.old) (host_of self.old.host.link) out inn)
             self.old.host self.new.host out inn wire.old wire.new }
@@ -103,7 +104,8 @@ impl<'a> Session<'a> {
         ensures told { result ≡ step_told (step_answer
             (host_of self.old.host.link) (meaning_of self.old.host_out) (length wire.old)) }
         ensures after { (inn : Meaning) →
-            Left (step_call (length wire.old) (host_of self.old.host.link) (meaning_of self.old.host_out) inn)
+            Left (step_call (length wire.old) (host_of self.old.host.link)
+            (meaning_of self.old.host_out) inn)
             self.old.host self.new.host (meaning_of self.old.host_out) inn wire.old wire.new }
         ensures only { self.new ≡ record self.old { host = self.new.host } }
     {
@@ -117,14 +119,18 @@ impl<'a> Session<'a> {
         ensures told { IfOk result (λ e. e ≡ timer_told (next_number (unspent_of notes.old))
             (timer_answer (host_of self.old.host.link) (length wire.old))) }
         ensures after { OnOk result ((inn : Meaning) →
-            Left (timer_call (length wire.old) (host_of self.old.host.link) (meaning_of self.old.host_out) inn)
+            Left (timer_call (length wire.old) (host_of self.old.host.link)
+            (meaning_of self.old.host_out) inn)
             self.old.host self.new.host (meaning_of self.new.host_out) inn wire.old wire.new) }
         ensures notes { OnOk result (unspent_of notes.new ≡ with_note
             (timed_doubt (timer_answer (host_of self.old.host.link) (length wire.old)))
             (unspent_of notes.old)) }
         ensures err { OnErr result ((self.new ≡ self.old)
             × (unspent_of notes.new ≡ unspent_of notes.old) × (wire.new ≡ wire.old)) }
-        ensures only { self.new ≡ record self.old { host = self.new.host; host_out = self.new.host_out } }
+        ensures only { self.new ≡ record self.old {
+          host = self.new.host;
+          host_out = self.new.host_out;
+        } }
     {
         notes.reserve()?;
         Ok(match self.host.timer(&mut self.host_out, wire) {
@@ -141,12 +147,14 @@ impl<'a> Session<'a> {
         ensures after { OnOk result (Stands
             (hear_call (hears (heard_by self.old.host.ear) byte) (host_of self.old.host.link)
             (meaning_of self.old.host_out) (meaning_of self.old.host_in))
-            (host_of self.new.host.link) (meaning_of self.new.host_out) (meaning_of self.new.host_in)) }
+            (host_of self.new.host.link)
+            (meaning_of self.new.host_out) (meaning_of self.new.host_in)) }
         ensures ear { OnOk result
             (heard_by self.new.host.ear ≡ (hears (heard_by self.old.host.ear) byte).then) }
         ensures notes { OnOk result (unspent_of notes.new ≡ with_note
             (heard_doubt (hear_answer (hears (heard_by self.old.host.ear) byte)
-            (host_of self.old.host.link) (meaning_of self.old.host_out) (meaning_of self.old.host_in)))
+            (host_of self.old.host.link)
+            (meaning_of self.old.host_out) (meaning_of self.old.host_in)))
             (unspent_of notes.old)) }
         ensures err { OnErr result
             ((self.new ≡ self.old) × (unspent_of notes.new ≡ unspent_of notes.old)) }
@@ -173,9 +181,13 @@ impl<'a> Session<'a> {
             (submit_counts (host_of self.old.host.link).submitted
             (meaning_of self.old.host_out) (min channel 255) (plain block.now)) }
         ensures ear { self.new.host.ear ≡ self.old.host.ear }
-        ensures out { meaning_of self.new.host_out ≡ submit_store (host_of self.old.host.link).submitted
+        ensures out { meaning_of self.new.host_out ≡
+            submit_store (host_of self.old.host.link).submitted
             (meaning_of self.old.host_out) (min channel 255) (plain block.now) }
-        ensures only { self.new ≡ record self.old { host = self.new.host; host_out = self.new.host_out } }
+        ensures only { self.new ≡ record self.old {
+          host = self.new.host;
+          host_out = self.new.host_out;
+        } }
     {
         let channel = byte(channel);
         numbered(self.host.submit(&mut self.host_out, channel, block))
@@ -194,7 +206,8 @@ impl<'a> Session<'a> {
             (meaning_of self.old.host_out) k.note.channel (plain block.now))) }
         ensures notes { MatchOption (note_of number (unspent_of notes.old))
             (unspent_of notes.new ≡ unspent_of notes.old)
-            (λ k. unspent_of notes.new ≡ (if granted (submit_answer (host_of self.old.host.link).submitted
+            (λ k. unspent_of notes.new ≡ (if granted (submit_answer
+            (host_of self.old.host.link).submitted
             (meaning_of self.old.host_out) k.note.channel (plain block.now))
             then without number (unspent_of notes.old) else unspent_of notes.old)) }
         ensures ear { self.new.host.ear ≡ self.old.host.ear }
@@ -202,7 +215,10 @@ impl<'a> Session<'a> {
             (self.new ≡ self.old)
             (λ k. meaning_of self.new.host_out ≡ submit_store (host_of self.old.host.link).submitted
             (meaning_of self.old.host_out) k.note.channel (plain block.now)) }
-        ensures only { self.new ≡ record self.old { host = self.new.host; host_out = self.new.host_out } }
+        ensures only { self.new ≡ record self.old {
+          host = self.new.host;
+          host_out = self.new.host_out;
+        } }
     {
         let Some(place) = notes.place(number) else {
             return Event::NoNote(number);
@@ -264,9 +280,13 @@ impl<'a> Session<'a> {
             (submit_counts (tnc_of self.old.tnc.link).submitted
             (meaning_of self.old.tnc_out) (min channel 255) (plain block.now)) }
         ensures ear { self.new.tnc.ear ≡ self.old.tnc.ear }
-        ensures out { meaning_of self.new.tnc_out ≡ submit_store (tnc_of self.old.tnc.link).submitted
+        ensures out { meaning_of self.new.tnc_out ≡
+            submit_store (tnc_of self.old.tnc.link).submitted
             (meaning_of self.old.tnc_out) (min channel 255) (plain block.now) }
-        ensures only { self.new ≡ record self.old { tnc = self.new.tnc; tnc_out = self.new.tnc_out } }
+        ensures only { self.new ≡ record self.old {
+          tnc = self.new.tnc;
+          tnc_out = self.new.tnc_out;
+        } }
     {
         let channel = byte(channel);
         numbered(self.tnc.submit(&mut self.tnc_out, channel, block))

@@ -51,7 +51,12 @@ impl Settings {
     pub fn new() -> Settings
         ensures host { host_of result.host.link ≡ new_host 3 }
         ensures ear { heard_by result.host.ear ≡ fresh Direction.FromTnc }
-        ensures choices { result.choices ≡ record { host_out = choice.Shelf; host_in = choice.Shelf; tnc_out = choice.Shelf; tnc_in = choice.Shelf } }
+        ensures choices { result.choices ≡ record {
+          host_out = choice.Shelf;
+          host_in = choice.Shelf;
+          tnc_out = choice.Shelf;
+          tnc_in = choice.Shelf;
+        } }
     {
         Settings {
             host: Host::new(REPEATS).unwrap(),
@@ -100,7 +105,9 @@ impl Choices {
 
 // A host that repeats a frame so often. A number above 255 is no byte; it is refused as 255 is.
 fn host_with(repeats: u64) -> Result<Host, SetupError>
-    ensures { MatchResult result (λ h. (host_of h.link ≡ new_host repeats) × (heard_by h.ear ≡ fresh Direction.FromTnc)) (NotSetUp (Setup.Repeats repeats)) }
+    ensures { MatchResult result
+        (λ h. (host_of h.link ≡ new_host repeats) × (heard_by h.ear ≡ fresh Direction.FromTnc))
+        (NotSetUp (Setup.Repeats repeats)) }
 {
     match Host::new(byte(repeats)) {
         Ok(host) => Ok(host),

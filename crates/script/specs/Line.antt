@@ -1,9 +1,10 @@
--- How a line is written that says something: its words one after the other, parted by blanks, and a comment at its end. Nothing
--- here says how a line is read.
-use Rattle.std.specs.Prelude.{◌≡◌, ℕ, ◌/◌, ◌%◌, ◌^◌, ◌<◌, ◌⊎◌, true, false, ⊤, List, [], ◌∷◌, ◌++◌, codes, decimal, replicate}
+-- How a line is written that says something: its words one after the other, parted by blanks, and a
+-- comment at its end. Nothing here says how a line is read.
+use Rattle.std.specs.Prelude.{◌≡◌, ℕ, ◌/◌, ◌%◌, ◌^◌, ◌<◌, nat_lt, ◌⊎◌, true, false, ⊤, List, [], ◌∷◌, ◌++◌, codes, decimal, replicate}
 use Rattle.std.specs.List.{list_all}
 use Rattle.std.specs.Char.{is_ascii_whitespace}
 use Rattle.std.specs.Fmt.{digit_glyph}
+use Rattle.hex.specs.Hex.{encode_upper}
 use Rattle.script.specs.Names.{first_name, place_name, kind_name, host_name, tnc_name}
 use Rattle.script.specs.Said.{HostSaid, opens, steps, times, hears, submits, submits_again, writes_off, collects, TncSaid, tnc_hears, tnc_submits, tnc_collects, Said, nothing, set_up, wire, buffer, host_is_called, tnc_is_called}
 use Rattle.script.specs.declared.name.First.{First}
@@ -32,7 +33,8 @@ pub data Part : Type 0 where
 abbrev pub setup_parts : Setup → List Part
 setup_parts (setup.Repeats n) = a_first first.Repeats ∷ a_number n ∷ []
 setup_parts (setup.Shelf p) = a_first first.Store ∷ a_place p ∷ a_kind kind.Shelf ∷ []
-setup_parts (setup.Strip p n) = a_first first.Store ∷ a_place p ∷ a_kind kind.Strip ∷ a_number n ∷ []
+setup_parts (setup.Strip p n) =
+    a_first first.Store ∷ a_place p ∷ a_kind kind.Strip ∷ a_number n ∷ []
 
 abbrev pub host_parts : HostSaid → List Part
 host_parts opens = a_host_call host.Open ∷ []
@@ -98,7 +100,8 @@ abbrev pub IsParted : List ℕ → Type 0
 IsParted [] = ⊤
 IsParted (c ∷ text) = is_ascii_whitespace c ≡ true
 
--- a text whose first word stands for a part, with any blanks before it, and of whose rest something holds
+-- a text whose first word stands for a part, with any blanks before it, and of whose rest something
+-- holds
 pub record Begins (part : Part) (RestIs : List ℕ → Type 0) (text : List ℕ) : Type 0 where
   pub blanks : List ℕ
   pub word : List ℕ
@@ -126,3 +129,37 @@ pub record IsLine (said : Said) (line : List ℕ) : Type 0 where
   pub whole : line ≡ text ++ comment
   pub words : IsText (parts_of said) text
   pub ended : IsComment comment
+
+-- ---- the plainest line: one space between words, no zeros before a number, capitals, no comment
+
+abbrev pub plain_word : Part → List ℕ
+plain_word (a_first f) = first_name f
+plain_word (a_place p) = place_name p
+plain_word (a_kind k) = kind_name k
+plain_word (a_host_call v) = host_name v
+plain_word (a_tnc_call v) = tnc_name v
+plain_word (a_number n) = decimal n
+plain_word (some_bytes []) = codes "-"
+plain_word (some_bytes (b ∷ bytes)) = encode_upper (b ∷ bytes)
+
+abbrev pub plain_text : List Part → List ℕ
+plain_text [] = []
+plain_text (p ∷ []) = plain_word p
+plain_text (p ∷ q ∷ parts) = plain_word p ++ 32 ∷ plain_text (q ∷ parts)
+
+abbrev pub plain_line : Said → List ℕ
+plain_line said = plain_text (parts_of said)
+
+-- numbers that 64 bits hold, and bytes
+abbrev pub Fits : Part → Type 0
+Fits (a_first f) = ⊤
+Fits (a_place p) = ⊤
+Fits (a_kind k) = ⊤
+Fits (a_host_call v) = ⊤
+Fits (a_tnc_call v) = ⊤
+Fits (a_number n) = n < 2 ^ 64
+Fits (some_bytes bytes) = list_all (λ b. nat_lt b 256) bytes ≡ true
+
+abbrev pub AllFit : List Part → Type 0
+AllFit [] = ⊤
+AllFit (p ∷ parts) = Fits p × AllFit parts

@@ -22,7 +22,8 @@ use Rattle.script.specs.declared.command.Setup.TheVariants as setup
 
 -- what follows, where a part of the line is read, and else why it is not
 infixl 10 ◌>>=◌
-abbrev pub ◌>>=◌ : {A B : Type 0} → Result A Unreadable → (A → Result B Unreadable) → Result B Unreadable
+abbrev pub ◌>>=◌ : {A B : Type 0} → Result A Unreadable → (A → Result B Unreadable)
+    → Result B Unreadable
 Ok x >>= f = f x
 Err e >>= f = Err e
 
@@ -84,16 +85,20 @@ store_form place kind.Strip text = last_number text >>= λ n. Ok (setup.Strip pl
 
 -- what follows the end's name, and what follows `store`
 abbrev pub host_in : List ℕ → Result HostSaid Unreadable
-host_in text = named_in host_name host_verbs (first_word text) >>= λ verb. host_form verb (after_word text)
+host_in text =
+    named_in host_name host_verbs (first_word text) >>= λ verb. host_form verb (after_word text)
 
 abbrev pub tnc_in : List ℕ → Result TncSaid Unreadable
-tnc_in text = named_in tnc_name tnc_verbs (first_word text) >>= λ verb. tnc_form verb (after_word text)
+tnc_in text =
+    named_in tnc_name tnc_verbs (first_word text) >>= λ verb. tnc_form verb (after_word text)
 
 abbrev pub kind_in : Place → List ℕ → Result Setup Unreadable
-kind_in place text = named_in kind_name kinds (first_word text) >>= λ k. store_form place k (after_word text)
+kind_in place text =
+    named_in kind_name kinds (first_word text) >>= λ k. store_form place k (after_word text)
 
 abbrev pub store_in : List ℕ → Result Setup Unreadable
-store_in text = named_in place_name places (first_word text) >>= λ place. kind_in place (after_word text)
+store_in text =
+    named_in place_name places (first_word text) >>= λ place. kind_in place (after_word text)
 
 -- what follows the first word of a line
 abbrev pub line_form : First → List ℕ → Result Said Unreadable
@@ -109,6 +114,7 @@ text_says text =
     if has_no_word text then Ok nothing
     else named_in first_name firsts (first_word text) >>= λ f. line_form f (after_word text)
 
--- what a line says, or what is wrong with the first word, from the left, that is missing or that no line may have there
+-- what a line says, or what is wrong with the first word, from the left, that is missing or that no
+-- line may have there
 abbrev pub line_says : List ℕ → Result Said Unreadable
 line_says line = text_says (without_comment line)
