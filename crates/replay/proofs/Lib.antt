@@ -1,2 +1,4 @@
-pub mod Found
 mod Again
+pub mod Counted
+pub mod Found
+pub mod HexDigits

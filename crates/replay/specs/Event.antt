@@ -1,5 +1,7 @@
--- How it is told what came of a call or of a byte: one definition for each answer gives every case its words.
-use Rattle.std.specs.Prelude.{ℕ, List, [], ◌++◌, codes, decimal, string_bytes, Option, Some, None}
+-- How it is told what came of a call or of a byte: one definition for each answer gives every case
+-- its words.
+use Rattle.std.specs.Prelude.{ℕ, List, [], ◌++◌, take, codes, decimal, Option, Some, None}
+use Rattle.hex.specs.Hex.{encode_upper}
 use Rattle.reader.specs.Fault.{fault_number}
 use Rattle.ends.specs.declared.name.BlockName.{BlockName}
 use Rattle.ends.specs.declared.name.Went.{Went}
@@ -12,6 +14,7 @@ use Rattle.host.specs.declared.answer.StepRule.TheVariants as step
 use Rattle.host.specs.Cause.{cause_number}
 use Rattle.tnc.specs.declared.answer.Rule.{Rule}
 use Rattle.tnc.specs.declared.answer.Rule.TheVariants as rule
+use Rattle.replay.specs.declared.buffers.Buffers.{Buffers}
 use Rattle.replay.specs.declared.event.Sending.{Sending}
 use Rattle.replay.specs.declared.event.Sending.TheVariants as sending
 use Rattle.replay.specs.declared.event.Met.{Met}
@@ -63,24 +66,32 @@ went_words (Some (Doubtful b)) = codes " doubtful " ++ block_words b
 
 abbrev pub doubt_words : Option Doubt → List ℕ
 doubt_words None = []
-doubt_words (Some d) = codes " doubtful " ++ (block_words d.block ++ (codes " note " ++ decimal d.note))
+doubt_words (Some d) =
+    codes " doubtful " ++ (block_words d.block ++ (codes " note " ++ decimal d.note))
 
 -- a refusal by its number; a fault of the reader with its count
 abbrev pub refused_words : ℕ → List ℕ
 refused_words n = codes "refused " ++ decimal n
 
 abbrev pub refusal_words : Refusal → List ℕ
-refusal_words (refusal.Reader f) = codes "fault " ++ (decimal (fault_number f.reason) ++ (codes " count " ++ decimal f.count))
+refusal_words (refusal.Reader f) =
+    codes "fault " ++ (decimal (fault_number f.reason) ++ (codes " count " ++ decimal f.count))
 refusal_words r = refused_words (refusal_number r)
 
-abbrev pub event_words : Event → List ℕ
-event_words (event.Sent s bytes) = sending_word s ++ (codes " sent " ++ string_bytes bytes)
-event_words (event.Down c d) = codes "down cause " ++ (decimal (cause_number c) ++ doubt_words d)
-event_words (event.Met m) = met_word m
-event_words (event.Confirmed b) = codes "confirmed " ++ block_words b
-event_words (event.Answered r w bytes) = rule_word r ++ (went_words w ++ (codes " sent " ++ string_bytes bytes))
-event_words (event.Number n) = codes "number " ++ decimal n
-event_words event.WrittenOff = codes "written off"
-event_words (event.Block bytes) = codes "block " ++ string_bytes bytes
-event_words (event.Refused r) = refusal_words r
-event_words (event.NoNote n) = codes "no note " ++ decimal n
+-- so many bytes of a buffer, from its start
+abbrev pub bytes_words : ℕ → List ℕ → List ℕ
+bytes_words n buffer = encode_upper (take n buffer)
+
+-- an event, with the bytes that the buffers hold after its call
+abbrev pub event_words : Event → Buffers → List ℕ
+event_words (event.Sent s n) b = sending_word s ++ (codes " sent " ++ bytes_words n b.wire.items)
+event_words (event.Down c d) b = codes "down cause " ++ (decimal (cause_number c) ++ doubt_words d)
+event_words (event.Met m) b = met_word m
+event_words (event.Confirmed n) b = codes "confirmed " ++ block_words n
+event_words (event.Answered r w n) b =
+    rule_word r ++ (went_words w ++ (codes " sent " ++ bytes_words n b.wire.items))
+event_words (event.Number n) b = codes "number " ++ decimal n
+event_words event.WrittenOff b = codes "written off"
+event_words (event.Block n) b = codes "block " ++ bytes_words n b.block.items
+event_words (event.Refused r) b = refusal_words r
+event_words (event.NoNote n) b = codes "no note " ++ decimal n

@@ -1,6 +1,5 @@
 -- The notes that are not spent.
-use Rattle.std.specs.Prelude.{◌≡◌, ℕ, ◌+◌, ◌-◌, ◌^◌, ◌==◌, min, List, [], ◌∷◌, ◌++◌, Option, Some, None, Result, Ok, Err, find, position, remove, insert, nat_lt, cond, Bool, MatchOption}
-use Rattle.std.specs.List.{position_or_len}
+use Rattle.std.specs.Prelude.{ℕ, ◌+◌, ◌-◌, ◌^◌, ◌==◌, min, List, [], ◌∷◌, ◌++◌, Option, Some, None, Result, Ok, Err, find, position, remove}
 use Rattle.ends.specs.declared.refusal.Refusal.{Refusal}
 use Rattle.host.specs.declared.note.DoubtNote.{DoubtNote}
 use Rattle.host.specs.declared.answer.Timed.{Timed}
@@ -10,41 +9,41 @@ use Rattle.host.specs.declared.answer.Heard.TheVariants as heard
 use Rattle.replay.specs.declared.notes.Kept.{Kept}
 use Rattle.replay.specs.declared.notes.Notes.{Notes}
 
+-- how many notes were handed out, and those that are not spent, the oldest first
+pub record Unspent : Type 0 where
+  pub handed : ℕ
+  pub kept : List Kept
+
+abbrev pub unspent_of : Notes → Unspent
+unspent_of n = record { handed = n.handed; kept = n.kept.items }
+
 -- the number that the next note gets
-abbrev pub next_number : Notes → ℕ
-next_number n = min (n.handed + 1) (2 ^ 64 - 1)
-
--- the note of a number, if it is not spent
-abbrev pub note_of : ℕ → List Kept → Option Kept
-note_of number notes = find (λ k. k.number == number) notes
-
--- that note is taken out, if there is one
-abbrev pub TakesOut : ℕ → List Kept → List Kept → Type 0
-TakesOut number old new = MatchOption (position (λ k. k.number == number) old) (new ≡ old) (λ i. new ≡ remove old i)
-
--- a note that was taken is spent, or stands again among the others, by its number
-abbrev pub put_among : Kept → List Kept → List Kept
-put_among k notes = insert notes (position_or_len (λ x. nat_lt k.number x.number) notes) k
-
-abbrev pub SpentOrBack : Bool → ℕ → Kept → List Kept → List Kept → Type 0
-SpentOrBack spent number k old new = (left : List Kept) × TakesOut number old left × (new ≡ cond spent left (put_among k left))
+abbrev pub next_number : Unspent → ℕ
+next_number u = min (u.handed + 1) (2 ^ 64 - 1)
 
 -- a note that is handed out now, if one is, is kept as the youngest
-abbrev pub Keeps : Option DoubtNote → Notes → Notes → Type 0
-Keeps None old new = new ≡ old
-Keeps (Some d) old new =
-    (new.handed ≡ next_number old) × (new.kept.items ≡ old.kept.items ++ record { number = next_number old; note = d } ∷ [])
+abbrev pub with_note : Option DoubtNote → Unspent → Unspent
+with_note None u = u
+with_note (Some d) u = record {
+  handed = next_number u;
+  kept = u.kept ++ record { number = next_number u; note = d } ∷ [];
+}
 
--- memory is wanting for a note that is handed out now: it is written off, and its number is spent
-abbrev pub Loses : Option DoubtNote → Notes → Notes → Type 0
-Loses None old new = ⊥
-Loses (Some d) old new = (new.handed ≡ next_number old) × (new.kept.items ≡ old.kept.items)
+-- the note of a number, if it is not spent, and where it stands
+abbrev pub note_of : ℕ → Unspent → Option Kept
+note_of number u = find (λ k. k.number == number) u.kept
 
--- memory is wanting at a timer: for the bytes of the frame that it repeats, or for a note
-abbrev pub TimerFails : Result Timed Refusal → Notes → Notes → Type 0
-TimerFails (Ok (timed.Repeated n)) old new = new ≡ old
-TimerFails (Ok (timed.Down f)) old new = Loses f.doubt old new
-TimerFails (Err e) old new = ⊥
+abbrev pub place_of : ℕ → Unspent → Option ℕ
+place_of number u = position (λ k. k.number == number) u.kept
+
+-- the notes without the one at a place, if that is one
+abbrev pub without_place : Option ℕ → Unspent → Unspent
+without_place None u = u
+without_place (Some i) u = record u { kept = remove u.kept i }
+
+-- the notes without that of a number
+abbrev pub without : ℕ → Unspent → Unspent
+without number u = without_place (place_of number u) u
 
 -- the note that a timer, a rule that was met, and a byte hand out
 abbrev pub timed_doubt : Result Timed Refusal → Option DoubtNote

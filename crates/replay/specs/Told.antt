@@ -1,6 +1,6 @@
--- What a call tells: the words for what the end answers, with the bytes that then stand in the buffer.
-use Rattle.std.specs.Prelude.{ℕ, List, ◌++◌, take, codes, decimal, Option, Some, None, Result, Ok, Err}
-use Rattle.hex.specs.Hex.{encode_upper}
+-- What a call tells: the event of what the end's own call answers.
+use Rattle.std.specs.Prelude.{ℕ, Option, Some, Result, Ok, Err}
+use Rattle.std.specs.Option.{option_map}
 use Rattle.ends.specs.declared.refusal.Refusal.{Refusal}
 use Rattle.host.specs.declared.note.DoubtNote.{DoubtNote}
 use Rattle.host.specs.declared.answer.Fall.{Fall}
@@ -9,78 +9,64 @@ use Rattle.host.specs.declared.answer.Timed.{Timed}
 use Rattle.host.specs.declared.answer.Timed.TheVariants as timed
 use Rattle.host.specs.declared.answer.Heard.{Heard}
 use Rattle.host.specs.declared.answer.Heard.TheVariants as heard
-use Rattle.host.specs.Cause.{cause_number}
 use Rattle.tnc.specs.declared.answer.Heard as answered
-use Rattle.replay.specs.declared.event.Sending.{Sending}
 use Rattle.replay.specs.declared.event.Sending.TheVariants as sending
 use Rattle.replay.specs.declared.event.Met.TheVariants as met
 use Rattle.replay.specs.declared.event.Doubt.{Doubt}
-use Rattle.replay.specs.Event.{sending_word, met_word, rule_word, block_words, went_words, doubt_words, refusal_words}
+use Rattle.replay.specs.declared.event.Event.{Event}
+use Rattle.replay.specs.declared.event.Event.TheVariants as event
 
--- a frame that the host sent, and a block that was collected
-abbrev pub sent_words : Sending → List ℕ → List ℕ
-sent_words s bytes = sending_word s ++ (codes " sent " ++ encode_upper bytes)
+abbrev pub open_told : Result ℕ Refusal → Event
+open_told (Ok n) = event.Sent sending.Open n
+open_told (Err e) = event.Refused e
 
-abbrev pub collected_words : List ℕ → List ℕ
-collected_words bytes = codes "block " ++ encode_upper bytes
+abbrev pub step_told : Result Stepped Refusal → Event
+step_told (Ok s) = event.Sent (sending.Step s.rule) s.sent
+step_told (Err e) = event.Refused e
 
 -- the link went down; the note for the block, if there is one, gets the next number
-abbrev pub noted : Option DoubtNote → ℕ → Option Doubt
-noted None next = None
-noted (Some d) next = Some (record { block = record { channel = d.channel; number = d.number }; note = next })
+abbrev pub doubt_noted : ℕ → DoubtNote → Doubt
+doubt_noted next d = record {
+  block = record { channel = d.channel; number = d.number };
+  note = next;
+}
 
-abbrev pub fall_words : Fall → ℕ → List ℕ
-fall_words f next = codes "down cause " ++ (decimal (cause_number f.cause) ++ doubt_words (noted f.doubt next))
+abbrev pub fall_told : ℕ → Fall → Event
+fall_told next f = event.Down f.cause (option_map (doubt_noted next) f.doubt)
 
-abbrev pub open_told : Result ℕ Refusal → List ℕ → List ℕ
-open_told (Ok n) wire = sent_words sending.Open (take n wire)
-open_told (Err e) wire = refusal_words e
-
-abbrev pub step_told : Result Stepped Refusal → List ℕ → List ℕ
-step_told (Ok s) wire = sent_words (sending.Step s.rule) (take s.sent wire)
-step_told (Err e) wire = refusal_words e
-
-abbrev pub timer_told : Result Timed Refusal → ℕ → List ℕ → List ℕ
-timer_told (Ok (timed.Repeated n)) next wire = sent_words sending.Repeat (take n wire)
-timer_told (Ok (timed.Down f)) next wire = fall_words f next
-timer_told (Err e) next wire = refusal_words e
+abbrev pub timer_told : ℕ → Result Timed Refusal → Event
+timer_told next (Ok (timed.Repeated n)) = event.Sent sending.Repeat n
+timer_told next (Ok (timed.Down f)) = fall_told next f
+timer_told next (Err e) = event.Refused e
 
 -- the rule that a frame met at the host
-abbrev pub heard_words : Heard → ℕ → List ℕ
-heard_words heard.Stale next = met_word met.Stale
-heard_words heard.Opened next = met_word met.Opened
-heard_words (heard.Confirmed b) next = codes "confirmed " ++ block_words b
-heard_words heard.BlockRefused next = met_word met.BlockRefused
-heard_words heard.NothingThere next = met_word met.NothingThere
-heard_words heard.Received next = met_word met.Received
-heard_words heard.Listed next = met_word met.Listed
-heard_words (heard.Down f) next = fall_words f next
+abbrev pub rule_told : ℕ → Heard → Event
+rule_told next heard.Stale = event.Met met.Stale
+rule_told next heard.Opened = event.Met met.Opened
+rule_told next (heard.Confirmed b) = event.Confirmed b
+rule_told next heard.BlockRefused = event.Met met.BlockRefused
+rule_told next heard.NothingThere = event.Met met.NothingThere
+rule_told next heard.Received = event.Met met.Received
+rule_told next heard.Listed = event.Met met.Listed
+rule_told next (heard.Down f) = fall_told next f
 
 -- a byte on which nothing happens tells nothing
-abbrev pub hear_told : Result (Option Heard) Refusal → ℕ → Option (List ℕ)
-hear_told (Ok None) next = None
-hear_told (Ok (Some h)) next = Some (heard_words h next)
-hear_told (Err e) next = Some (refusal_words e)
+abbrev pub hear_told : ℕ → Result (Option Heard) Refusal → Option Event
+hear_told next (Ok o) = option_map (rule_told next) o
+hear_told next (Err e) = Some (event.Refused e)
 
 -- the rule that a frame met at the TNC, the block that went, and the answer
-abbrev pub answered_words : answered.Heard → List ℕ → List ℕ
-answered_words h wire = rule_word h.rule ++ (went_words h.went ++ (codes " sent " ++ encode_upper (take h.sent wire)))
+abbrev pub answer_told : answered.Heard → Event
+answer_told h = event.Answered h.rule h.went h.sent
 
-abbrev pub tnc_told : Result (Option answered.Heard) Refusal → List ℕ → Option (List ℕ)
-tnc_told (Ok None) wire = None
-tnc_told (Ok (Some h)) wire = Some (answered_words h wire)
-tnc_told (Err e) wire = Some (refusal_words e)
+abbrev pub tnc_told : Result (Option answered.Heard) Refusal → Option Event
+tnc_told (Ok o) = option_map answer_told o
+tnc_told (Err e) = Some (event.Refused e)
 
-abbrev pub submit_told : Result ℕ Refusal → List ℕ
-submit_told (Ok n) = codes "number " ++ decimal n
-submit_told (Err e) = refusal_words e
+abbrev pub submit_told : Result ℕ Refusal → Event
+submit_told (Ok n) = event.Number n
+submit_told (Err e) = event.Refused e
 
-abbrev pub collect_told : Result ℕ Refusal → List ℕ → List ℕ
-collect_told (Ok n) buffer = collected_words (take n buffer)
-collect_told (Err e) buffer = refusal_words e
-
-abbrev pub no_note_words : ℕ → List ℕ
-no_note_words k = codes "no note " ++ decimal k
-
-abbrev pub written_off_words : List ℕ
-written_off_words = codes "written off"
+abbrev pub collect_told : Result ℕ Refusal → Event
+collect_told (Ok n) = event.Block n
+collect_told (Err e) = event.Refused e

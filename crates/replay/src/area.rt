@@ -53,10 +53,11 @@ impl From<AllocError> for AreaError {
 impl Area {
     ghost use Rattle.std.specs.Prelude.{MatchResult};
     ghost use Rattle.replay.specs.Area.{NoArea};
+    ghost use Rattle.replay.specs.Buffers.{zeros};
 
     /// An area of so many bytes, all of them 0. Of a length that no strip has, one byte more than the longest is enough to see that.
     pub fn new(alloc: Global, length: u64) -> Result<Area, AreaError>
-        ensures { MatchResult result (λ a. vec_len a.bytes ≡ length) (NoArea length) }
+        ensures { MatchResult result (λ a. a.bytes.items ≡ zeros length) (NoArea length) }
     {
         let bytes = vec![in alloc; 0; at_most(length, LONGEST_AREA + 1)]?;
         check(bytes.as_slice())?;
@@ -65,13 +66,11 @@ impl Area {
 }
 
 impl Choice {
-    ghost use Rattle.store.specs.Meaning.{empty};
-    ghost use Rattle.replay.specs.AnyStore.{meaning_of};
-    ghost use Rattle.replay.specs.Settings.{limit_chosen};
+    ghost use Rattle.replay.specs.Settings.{IsNewStore};
 
-    /// A store of the chosen kind, empty.
+    /// A store of the chosen kind, empty, in its area.
     pub fn store(&mut self) -> AnyStore<'_>
-        ensures { meaning_of result ≡ empty (limit_chosen self.old) }
+        ensures { IsNewStore self.old result }
     {
         match self {
             Choice::Shelf => AnyStore::Shelf(Shelf::new()),

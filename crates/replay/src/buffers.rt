@@ -30,7 +30,8 @@ impl Buffers {
 
     /// Later calls are given a wire buffer of so many bytes.
     pub fn set_wire(&mut self, length: u64) -> Result<(), AllocError>
-        ensures wire { self.new.wire.items ≡ (if is_ok result then resized (min length longest_wire) self.old.wire.items else self.old.wire.items) }
+        ensures wire { self.new.wire.items ≡ (if is_ok result
+            then resized (min length longest_wire) self.old.wire.items else self.old.wire.items) }
         ensures block { self.new.block ≡ self.old.block }
     {
         self.wire.resize(at_most(length, WIRE), 0)
@@ -38,7 +39,8 @@ impl Buffers {
 
     /// Later calls are given a block buffer of so many bytes.
     pub fn set_block(&mut self, length: u64) -> Result<(), AllocError>
-        ensures block { self.new.block.items ≡ (if is_ok result then resized (min length longest_block) self.old.block.items else self.old.block.items) }
+        ensures block { self.new.block.items ≡ (if is_ok result
+            then resized (min length longest_block) self.old.block.items else self.old.block.items) }
         ensures wire { self.new.wire ≡ self.old.wire }
     {
         self.block.resize(at_most(length, BLOCK), 0)

@@ -1,10 +1,9 @@
 // The doubt notes that are not spent yet, by the numbers that they got as they were handed out.
-ghost use Rattle.std.specs.Prelude.{◌≡◌, ◌==◌, [], ◌∷◌, ◌++◌, drop, insert, is_ok, nat_lt, if◌then◌else◌, IfOk, OnOk, OnErr, OnSome, MatchOption, slice_get, vec_len, ◌+◌};
-ghost use Rattle.std.specs.List.{position, position_or_len};
-ghost use Rattle.replay.specs.Notes.{next_number, note_of, TakesOut};
+ghost use Rattle.std.specs.Prelude.{◌≡◌, ◌<◌, ◌≤◌, [], Some, OnOk, IfSome, option_and_then, insert, remove, slice_get, vec_len, vec_capacity};
+ghost use Rattle.replay.specs.Notes.{next_number, note_of, place_of, unspent_of, with_note, without};
 
 use host::note::DoubtNote;
-use std::alloc::{AllocError, AllocFailed, Global};
+use std::alloc::{AllocError, Global};
 
 /// A note and its number.
 pub struct Kept {
@@ -22,8 +21,7 @@ pub struct Notes {
 impl Notes {
     /// No note was handed out.
     pub fn new(alloc: Global) -> Notes
-        ensures kept { result.kept.items ≡ [] }
-        ensures handed { result.handed ≡ 0 }
+        ensures { unspent_of result ≡ record { handed = 0; kept = [] } }
     {
         Notes {
             kept: Vec::new(alloc),
@@ -31,69 +29,69 @@ impl Notes {
         }
     }
 
-    /// Keeps a note that is handed out now, and answers its number. Where there is no memory to keep it, it is written off.
-    pub fn keep(&mut self, note: DoubtNote) -> Result<u64, AllocError>
-        ensures number { IfOk result (λ n. n ≡ next_number self.old) }
-        ensures handed { self.new.handed ≡ next_number self.old }
-        ensures kept { self.new.kept.items ≡ (if is_ok result then self.old.kept.items ++ record { number = next_number self.old; note = note } ∷ [] else self.old.kept.items) }
+    // All that are not spent, the oldest first.
+    pub(crate) fn kept(&self) -> &[Kept]
+        ensures { result.now ≡ (unspent_of self.now).kept }
+    {
+        self.kept.as_slice()
+    }
+
+    // Takes memory for one note more, where there is none yet.
+    pub(crate) fn reserve(&mut self) -> Result<(), AllocError>
+        ensures unspent { unspent_of self.new ≡ unspent_of self.old }
+        ensures room { OnOk result (vec_len self.new.kept < vec_capacity self.new.kept) }
+    {
+        self.kept.reserve(1)
+    }
+
+    // Keeps a note that is handed out now, and answers its number.
+    pub(crate) fn keep(&mut self, note: DoubtNote) -> u64
+        requires { vec_len self.old.kept < vec_capacity self.old.kept }
+        ensures number { result ≡ next_number (unspent_of self.old) }
+        ensures unspent { unspent_of self.new ≡ with_note (Some note) (unspent_of self.old) }
     {
         self.handed = self.handed.saturating_add(1);
         let number = self.handed;
-        match self.kept.push(Kept { number, note }) {
-            Ok(()) => Ok(number),
-            Err(failed) => Err(lost(failed)),
-        }
-    }
-
-    /// The note of a number, if it is not spent. It is the caller's now.
-    pub fn take(&mut self, number: u64) -> Option<Kept>
-        ensures value { result ≡ note_of number self.old.kept.items }
-        ensures rest { TakesOut number self.old.kept.items self.new.kept.items }
-        ensures none { MatchOption result (self.new ≡ self.old) (λ _. Unit {0}) }
-        ensures handed { self.new.handed ≡ self.old.handed }
-    {
-        let i = self.place(number)?;
-        Some(self.kept.remove(i))
-    }
-
-    /// Takes back a note that was not spent. Where there is no memory to keep it, it is written off.
-    pub fn put_back(&mut self, kept: Kept) -> Result<(), AllocError>
-        ensures ok { OnOk result (self.new.kept.items ≡ insert self.old.kept.items (position_or_len (λ k. nat_lt kept.number k.number) self.old.kept.items) kept) }
-        ensures err { OnErr result (self.new.kept.items ≡ self.old.kept.items) }
-        ensures handed { self.new.handed ≡ self.old.handed }
-    {
-        let i = self.younger(kept.number).unwrap_or(self.kept.len());
-        match self.kept.insert(i, kept) {
-            Ok(()) => Ok(()),
-            Err(failed) => Err(lost(failed)),
-        }
-    }
-
-    /// The oldest note that is not spent, if there is one. It is the caller's now.
-    pub fn oldest(&mut self) -> Option<Kept>
-        ensures value { result ≡ slice_get self.old.kept.items 0 }
-        ensures rest { self.new.kept.items ≡ drop 1 self.old.kept.items }
-        ensures fewer { OnSome result (vec_len self.new.kept + 1 ≡ vec_len self.old.kept) }
-        ensures handed { self.new.handed ≡ self.old.handed }
-    {
-        if self.kept.is_empty() {
-            return None;
-        }
-        Some(self.kept.remove(0))
+        self.kept.push_reserved(Kept { number, note });
+        number
     }
 
     // Where the note of a number stands.
-    fn place(&self, number: u64) -> Option<usize>
-        ensures { result ≡ position (λ k. k.number == number) self.now.kept.items }
+    pub(crate) fn place(&self, number: u64) -> Option<usize>
+        ensures place { result ≡ place_of number (unspent_of self.now) }
+        ensures within { IfSome result (λ i. i < vec_len self.now.kept) }
+        ensures note { note_of number (unspent_of self.now)
+            ≡ option_and_then (slice_get self.now.kept.items) result }
+    {
+        self.first_of(number)
+    }
+
+    // Where the first note of a number stands.
+    fn first_of(&self, number: u64) -> Option<usize>
+        ensures { result ≡ place_of number (unspent_of self.now) }
     {
         self.kept.iter().position(|kept| kept.number == number)
     }
 
-    // Where the first note stands that was handed out after that of a number.
-    fn younger(&self, number: u64) -> Option<usize>
-        ensures { result ≡ position (λ k. nat_lt number k.number) self.now.kept.items }
+    // Takes out the note at a place. Its room stays.
+    pub(crate) fn take(&mut self, place: usize) -> Kept
+        requires { place < vec_len self.old.kept }
+        ensures value { slice_get self.old.kept.items place ≡ Some result }
+        ensures kept { self.new.kept.items ≡ remove self.old.kept.items place }
+        ensures room { vec_len self.new.kept < vec_capacity self.new.kept }
+        ensures handed { self.new.handed ≡ self.old.handed }
     {
-        self.kept.iter().position(|kept| number < kept.number)
+        self.kept.remove(place)
+    }
+
+    // Puts a note back to the place that it was taken from.
+    pub(crate) fn put_back(&mut self, place: usize, kept: Kept)
+        requires within { place ≤ vec_len self.old.kept }
+        requires room { vec_len self.old.kept < vec_capacity self.old.kept }
+        ensures kept { self.new.kept.items ≡ insert self.old.kept.items place kept }
+        ensures handed { self.new.handed ≡ self.old.handed }
+    {
+        self.kept.insert(place, kept).unwrap();
     }
 
     /// Writes off all that are not spent.
@@ -112,11 +110,4 @@ impl Kept {
         let Kept { number: _, note } = self;
         note.write_off();
     }
-}
-
-// A note that can't be kept is written off.
-fn lost(failed: AllocFailed<Kept>) -> AllocError {
-    let AllocFailed { value } = failed;
-    value.write_off();
-    AllocError
 }

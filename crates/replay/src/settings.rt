@@ -1,10 +1,11 @@
 // What a script sets up before the first call.
-ghost use Rattle.std.specs.Prelude.{◌≡◌, Some, OnOk, OnErr, IfErr, MatchResult, vec_len};
+ghost use Rattle.std.specs.Prelude.{◌≡◌, Some, OnOk, OnErr, IfErr, MatchResult};
 ghost use Rattle.reader.specs.Read.{fresh};
 ghost use Rattle.ends.specs.Ear.{heard_by};
 ghost use Rattle.ends.specs.Host.{new_host};
 ghost use Rattle.host.specs.Model.{host_of};
 ghost use Rattle.replay.specs.declared.area.Choice.TheVariants as choice;
+ghost use Rattle.replay.specs.Buffers.{zeros};
 ghost use Rattle.replay.specs.Settings.{choose, SetUp, NotSetUp, error_words};
 
 use crate::area::{Area, AreaError, Choice};
@@ -50,7 +51,12 @@ impl Settings {
     pub fn new() -> Settings
         ensures host { host_of result.host.link ≡ new_host 3 }
         ensures ear { heard_by result.host.ear ≡ fresh Direction.FromTnc }
-        ensures choices { result.choices ≡ record { host_out = choice.Shelf; host_in = choice.Shelf; tnc_out = choice.Shelf; tnc_in = choice.Shelf } }
+        ensures choices { result.choices ≡ record {
+          host_out = choice.Shelf;
+          host_in = choice.Shelf;
+          tnc_out = choice.Shelf;
+          tnc_in = choice.Shelf;
+        } }
     {
         Settings {
             host: Host::new(REPEATS).unwrap(),
@@ -99,7 +105,9 @@ impl Choices {
 
 // A host that repeats a frame so often. A number above 255 is no byte; it is refused as 255 is.
 fn host_with(repeats: u64) -> Result<Host, SetupError>
-    ensures { MatchResult result (λ h. (host_of h.link ≡ new_host repeats) × (heard_by h.ear ≡ fresh Direction.FromTnc)) (NotSetUp (Setup.Repeats repeats)) }
+    ensures { MatchResult result
+        (λ h. (host_of h.link ≡ new_host repeats) × (heard_by h.ear ≡ fresh Direction.FromTnc))
+        (NotSetUp (Setup.Repeats repeats)) }
 {
     match Host::new(byte(repeats)) {
         Ok(host) => Ok(host),
@@ -109,7 +117,8 @@ fn host_with(repeats: u64) -> Result<Host, SetupError>
 
 // An area for the strip of a place.
 fn area_at(alloc: Global, place: Place, length: u64) -> Result<Area, SetupError>
-    ensures { MatchResult result (λ a. vec_len a.bytes ≡ length) (NotSetUp (Setup.Strip place length)) }
+    ensures { MatchResult result (λ a. a.bytes.items ≡ zeros length)
+        (NotSetUp (Setup.Strip place length)) }
 {
     match Area::new(alloc, length) {
         Ok(area) => Ok(area),

@@ -60,7 +60,9 @@ abbrev pub kinds : List Kind
 kinds = kind.Shelf ∷ kind.Strip ∷ []
 
 abbrev pub host_verbs : List HostVerb
-host_verbs = host.Open ∷ host.Step ∷ host.Timer ∷ host.Hear ∷ host.Submit ∷ host.Again ∷ host.WriteOff ∷ host.Collect ∷ []
+host_verbs =
+    host.Open ∷ host.Step ∷ host.Timer ∷ host.Hear
+    ∷ host.Submit ∷ host.Again ∷ host.WriteOff ∷ host.Collect ∷ []
 
 abbrev pub tnc_verbs : List TncVerb
 tnc_verbs = tnc.Hear ∷ tnc.Submit ∷ tnc.Collect ∷ []

@@ -9,7 +9,8 @@ use Rattle.script.specs.declared.unreadable.Unreadable.TheVariants.{MissingWord,
 
 -- what digits are worth, where 64 bits hold it
 abbrev pub value_of : List ℕ → Option ℕ
-value_of digits = if nat_lt (digits_value 10 digits) (2 ^ 64) then Some (digits_value 10 digits) else None
+value_of digits =
+    if nat_lt (digits_value 10 digits) (2 ^ 64) then Some (digits_value 10 digits) else None
 
 -- digits alone are a number
 abbrev pub number_in : List ℕ → Result ℕ Unreadable

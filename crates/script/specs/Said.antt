@@ -1,23 +1,7 @@
--- What a line says, as it stands in the line, and what a command means.
-use Rattle.std.specs.Prelude.{ℕ, if◌then◌else◌, List, Result, Ok, Err}
-use Rattle.script.specs.Words.{without_comment, first_word, after_word, has_no_word}
-use Rattle.script.specs.Names.{first_name, place_name, kind_name, host_name, tnc_name, firsts, places, kinds, host_verbs, tnc_verbs, named_in}
-use Rattle.script.specs.Numbers.{number_in}
-use Rattle.script.specs.Bytes.{bytes_in, bytes_of}
-use Rattle.script.specs.declared.unreadable.Unreadable.{Unreadable}
-use Rattle.script.specs.declared.unreadable.Unreadable.TheVariants.{SpareWord}
-use Rattle.script.specs.declared.name.First.{First}
-use Rattle.script.specs.declared.name.First.TheVariants as first
-use Rattle.script.specs.declared.name.Place.{Place}
-use Rattle.script.specs.declared.name.Kind.{Kind}
-use Rattle.script.specs.declared.name.Kind.TheVariants as kind
-use Rattle.script.specs.declared.name.HostVerb.{HostVerb}
-use Rattle.script.specs.declared.name.HostVerb.TheVariants as host
-use Rattle.script.specs.declared.name.TncVerb.{TncVerb}
-use Rattle.script.specs.declared.name.TncVerb.TheVariants as tnc
-use Rattle.script.specs.declared.reading.NumberedHex.{NumberedHex}
+-- What a line says, and what a command means.
+use Rattle.std.specs.Prelude.{ℕ, List}
+use Rattle.script.specs.Bytes.{bytes_of}
 use Rattle.script.specs.declared.command.Setup.{Setup}
-use Rattle.script.specs.declared.command.Setup.TheVariants as setup
 use Rattle.script.specs.declared.command.HostCall.{HostCall}
 use Rattle.script.specs.declared.command.HostCall.TheVariants as host_call
 use Rattle.script.specs.declared.command.TncCall.{TncCall}
@@ -25,22 +9,22 @@ use Rattle.script.specs.declared.command.TncCall.TheVariants as tnc_call
 use Rattle.script.specs.declared.command.Command.{Command}
 use Rattle.script.specs.declared.command.Command.TheVariants as command
 
--- what follows, where a part of the line is read, and else why it is not
-infixl 10 ◌>>=◌
-abbrev pub ◌>>=◌ : {A B : Type 0} → Result A Unreadable → (A → Result B Unreadable) → Result B Unreadable
-Ok x >>= f = f x
-Err e >>= f = Err e
+-- a call of the host as a line says it, with its bytes
+pub data HostSaid : Type 0 where
+  opens : HostSaid
+  steps : HostSaid
+  times : HostSaid
+  hears : List ℕ → HostSaid
+  submits : ℕ → List ℕ → HostSaid
+  submits_again : ℕ → List ℕ → HostSaid
+  writes_off : ℕ → HostSaid
+  collects : ℕ → HostSaid
 
--- a call of an end as a line says it, with its bytes
-pub data CallSaid : Type 0 where
-  opens : CallSaid
-  steps : CallSaid
-  times : CallSaid
-  hears : List ℕ → CallSaid
-  submits : ℕ → List ℕ → CallSaid
-  submits_again : ℕ → List ℕ → CallSaid
-  writes_off : ℕ → CallSaid
-  collects : ℕ → CallSaid
+-- a call of the TNC
+pub data TncSaid : Type 0 where
+  tnc_hears : List ℕ → TncSaid
+  tnc_submits : ℕ → List ℕ → TncSaid
+  tnc_collects : ℕ → TncSaid
 
 -- what a line says
 pub data Said : Type 0 where
@@ -48,12 +32,12 @@ pub data Said : Type 0 where
   set_up : Setup → Said
   wire : ℕ → Said
   buffer : ℕ → Said
-  host_is_called : CallSaid → Said
-  tnc_is_called : CallSaid → Said
+  host_is_called : HostSaid → Said
+  tnc_is_called : TncSaid → Said
 
 -- ---- what a command means
 
-abbrev pub host_said : HostCall → CallSaid
+abbrev pub host_said : HostCall → HostSaid
 host_said host_call.Open = opens
 host_said host_call.Step = steps
 host_said host_call.Timer = times
@@ -63,10 +47,10 @@ host_said (host_call.Again n h) = submits_again n (bytes_of h)
 host_said (host_call.WriteOff n) = writes_off n
 host_said (host_call.Collect c) = collects c
 
-abbrev pub tnc_said : TncCall → CallSaid
-tnc_said (tnc_call.Hear h) = hears (bytes_of h)
-tnc_said (tnc_call.Submit c h) = submits c (bytes_of h)
-tnc_said (tnc_call.Collect c) = collects c
+abbrev pub tnc_said : TncCall → TncSaid
+tnc_said (tnc_call.Hear h) = tnc_hears (bytes_of h)
+tnc_said (tnc_call.Submit c h) = tnc_submits c (bytes_of h)
+tnc_said (tnc_call.Collect c) = tnc_collects c
 
 abbrev pub said_by : Command → Said
 said_by command.Nothing = nothing
@@ -75,90 +59,3 @@ said_by (command.Wire n) = wire n
 said_by (command.Buffer n) = buffer n
 said_by (command.Host c) = host_is_called (host_said c)
 said_by (command.Tnc c) = tnc_is_called (tnc_said c)
-
--- ---- what a line says
-
--- no word more
-abbrev pub ended : {A : Type 0} → List ℕ → A → Result A Unreadable
-ended text said = if has_no_word text then Ok said else Err SpareWord
-
--- a number, and no word more
-abbrev pub last_number : List ℕ → Result ℕ Unreadable
-last_number text = number_in (first_word text) >>= ended (after_word text)
-
--- bytes, and no word more
-abbrev pub last_bytes : List ℕ → Result (List ℕ) Unreadable
-last_bytes text = bytes_in (first_word text) >>= ended (after_word text)
-
--- a number, then bytes, and no word more
-pub record Numbered : Type 0 where
-  pub number : ℕ
-  pub bytes : List ℕ
-
-abbrev pub numbered_of : NumberedHex → Numbered
-numbered_of h = record { number = h.number; bytes = bytes_of h.bytes }
-
-abbrev pub numbered_bytes : List ℕ → Result Numbered Unreadable
-numbered_bytes text = number_in (first_word text) >>= λ n. last_bytes (after_word text) >>= λ bytes. Ok (record { number = n; bytes = bytes })
-
--- a call with a number, one with bytes, and one with a number and bytes
-abbrev pub with_number : (ℕ → CallSaid) → List ℕ → Result CallSaid Unreadable
-with_number call text = last_number text >>= λ n. Ok (call n)
-
-abbrev pub with_bytes : (List ℕ → CallSaid) → List ℕ → Result CallSaid Unreadable
-with_bytes call text = last_bytes text >>= λ bytes. Ok (call bytes)
-
-abbrev pub with_both : (ℕ → List ℕ → CallSaid) → List ℕ → Result CallSaid Unreadable
-with_both call text = numbered_bytes text >>= λ p. Ok (call p.number p.bytes)
-
--- what follows the name of a call
-abbrev pub host_form : HostVerb → List ℕ → Result CallSaid Unreadable
-host_form host.Open text = ended text opens
-host_form host.Step text = ended text steps
-host_form host.Timer text = ended text times
-host_form host.Hear text = with_bytes hears text
-host_form host.Submit text = with_both submits text
-host_form host.Again text = with_both submits_again text
-host_form host.WriteOff text = with_number writes_off text
-host_form host.Collect text = with_number collects text
-
-abbrev pub tnc_form : TncVerb → List ℕ → Result CallSaid Unreadable
-tnc_form tnc.Hear text = with_bytes hears text
-tnc_form tnc.Submit text = with_both submits text
-tnc_form tnc.Collect text = with_number collects text
-
--- what follows the name of a store
-abbrev pub store_form : Place → Kind → List ℕ → Result Setup Unreadable
-store_form place kind.Shelf text = ended text (setup.Shelf place)
-store_form place kind.Strip text = last_number text >>= λ n. Ok (setup.Strip place n)
-
--- what follows the end's name, and what follows `store`
-abbrev pub host_in : List ℕ → Result CallSaid Unreadable
-host_in text = named_in host_name host_verbs (first_word text) >>= λ verb. host_form verb (after_word text)
-
-abbrev pub tnc_in : List ℕ → Result CallSaid Unreadable
-tnc_in text = named_in tnc_name tnc_verbs (first_word text) >>= λ verb. tnc_form verb (after_word text)
-
-abbrev pub kind_in : Place → List ℕ → Result Setup Unreadable
-kind_in place text = named_in kind_name kinds (first_word text) >>= λ k. store_form place k (after_word text)
-
-abbrev pub store_in : List ℕ → Result Setup Unreadable
-store_in text = named_in place_name places (first_word text) >>= λ place. kind_in place (after_word text)
-
--- what follows the first word of a line
-abbrev pub line_form : First → List ℕ → Result Said Unreadable
-line_form first.Repeats text = last_number text >>= λ n. Ok (set_up (setup.Repeats n))
-line_form first.Store text = store_in text >>= λ s. Ok (set_up s)
-line_form first.Wire text = last_number text >>= λ n. Ok (wire n)
-line_form first.Buffer text = last_number text >>= λ n. Ok (buffer n)
-line_form first.Host text = host_in text >>= λ c. Ok (host_is_called c)
-line_form first.Tnc text = tnc_in text >>= λ c. Ok (tnc_is_called c)
-
-abbrev pub text_says : List ℕ → Result Said Unreadable
-text_says text =
-    if has_no_word text then Ok nothing
-    else named_in first_name firsts (first_word text) >>= λ f. line_form f (after_word text)
-
--- what a line says, or what is wrong with the first word, from the left, that is missing or that no line may have there
-abbrev pub line_says : List ℕ → Result Said Unreadable
-line_says line = text_says (without_comment line)

@@ -1,8 +1,10 @@
 // Reading a line.
-ghost use Rattle.std.specs.Prelude.{◌≡◌};
+ghost use Rattle.std.specs.Prelude.{◌≡◌, Ok};
 ghost use Rattle.std.specs.Result.{result_map_both};
 ghost use Rattle.script.specs.Bytes.{bytes_of};
-ghost use Rattle.script.specs.Said.{said_by, host_said, tnc_said, line_says, store_in, host_in, tnc_in, ended, last_number, last_bytes, numbered_bytes, numbered_of};
+ghost use Rattle.script.specs.Line.{IsLine, AllFit, parts_of, plain_line};
+ghost use Rattle.script.specs.Said.{Said, said_by, host_said, tnc_said};
+ghost use Rattle.script.specs.Reading.{line_says, text_says, store_in, host_in, tnc_in, ended, last_number, last_bytes, numbered_bytes, numbered_of};
 
 use crate::command::{Command, HostCall, Setup, TncCall};
 use crate::digits::Hex;
@@ -20,11 +22,23 @@ struct NumberedHex<'a> {
     bytes: Hex<'a>,
 }
 
-/// What a line says, or the first thing in it that can't be read.
+/// What a line says, or the first thing in it that can't be read. Whatever line is written of a command is read as that (`law`):
+/// with any blanks between its words, and before and after them, with zeros before a number, with digits of either case, with a
+/// comment; and so is its plainest line (`plain`).
 pub fn read(line: &[u8]) -> Result<Command<'_>, Unreadable>
-    ensures { result_map_both said_by (λ e. e) result ≡ line_says line.now }
+    ensures says { result_map_both said_by (λ e. e) result ≡ line_says line.now }
+    ensures law { (said : Said) → IsLine said line.now
+        → result_map_both said_by (λ e. e) result ≡ Ok said }
+    ensures plain { (said : Said) → AllFit (parts_of said) → line.now ≡ plain_line said
+        → result_map_both said_by (λ e. e) result ≡ Ok said }
 {
-    let text = uncommented(line);
+    command(uncommented(line))
+}
+
+// What a line says without its comment.
+fn command(text: &[u8]) -> Result<Command<'_>, Unreadable>
+    ensures { result_map_both said_by (λ e. e) result ≡ text_says text.now }
+{
     if is_blank(text) {
         return Ok(Command::Nothing);
     }

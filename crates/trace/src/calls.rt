@@ -1,8 +1,9 @@
 // The calls of a script, made one after the other.
-use crate::closing::{close, settle};
 use crate::script_lines::ScriptLines;
 use crate::telling::Teller;
 use replay::buffers::Buffers;
+use replay::ending::End;
+use replay::event::Told;
 use replay::notes::Notes;
 use replay::session::{Session, host_write_off};
 use script::command::{Command, HostCall, TncCall};
@@ -41,16 +42,18 @@ impl<W: Write + Drop> Caller<'_, '_, W> {
         Ok(())
     }
 
-    /// The script is through: what is told at the end, and the status of the program.
+    /// The script is through: what is told at the end, and the status of the program. The notes that are not spent are told as
+    /// written off, which is left to whoever has them.
     pub fn close(self) -> io::Result<ExitCode> {
         let Caller {
-            alloc: _,
+            alloc,
             session,
             notes,
             mut teller,
         } = self;
-        close(&session, &mut teller)?;
-        settle(notes, &mut teller)?;
+        for line in session.final_lines(alloc, notes)?.iter() {
+            teller.tell(*line)?;
+        }
         teller.finish()
     }
 
@@ -77,33 +80,35 @@ impl<W: Write + Drop> Caller<'_, '_, W> {
     fn host(&mut self, buffers: &mut Buffers, number: u64, call: HostCall) -> io::Result<()> {
         let verb = call.verb().name();
         let event = match call {
-            HostCall::Open => self.session.host_open(buffers.wire.as_mut_slice())?,
-            HostCall::Step => self.session.host_step(buffers.wire.as_mut_slice())?,
+            HostCall::Open => self.session.host_open(buffers.wire.as_mut_slice()),
+            HostCall::Step => self.session.host_step(buffers.wire.as_mut_slice()),
             HostCall::Timer => self
                 .session
                 .host_timer(self.notes, buffers.wire.as_mut_slice())?,
-            HostCall::Hear(bytes) => return self.host_hear(number, bytes),
+            HostCall::Hear(bytes) => return self.host_hear(buffers, number, bytes),
             HostCall::Submit { channel, block } => {
                 let block = block.bytes(self.alloc)?;
                 self.session.host_submit(channel, block.as_slice())
             }
             HostCall::Again { note, block } => {
                 let block = block.bytes(self.alloc)?;
-                self.session.host_again(self.notes, note, block.as_slice())?
+                self.session.host_again(self.notes, note, block.as_slice())
             }
             HostCall::WriteOff { note } => host_write_off(self.notes, note),
             HostCall::Collect { channel } => self
                 .session
-                .host_collect(channel, buffers.block.as_mut_slice())?,
+                .host_collect(channel, buffers.block.as_mut_slice()),
         };
-        self.teller.called(number, "host", verb, event)
+        self.teller
+            .called(number, End::Host, verb, Told { event, buffers })
     }
 
     // Each byte is one call.
-    fn host_hear(&mut self, number: u64, bytes: Hex) -> io::Result<()> {
+    fn host_hear(&mut self, buffers: &Buffers, number: u64, bytes: Hex) -> io::Result<()> {
         for (i, byte) in bytes.bytes(self.alloc)?.iter().enumerate() {
             if let Some(event) = self.session.host_hear(self.notes, *byte)? {
-                self.teller.heard(number, "host", i + 1, event)?;
+                self.teller
+                    .heard(number, End::Host, i + 1, Told { event, buffers })?;
             }
         }
         Ok(())
@@ -120,16 +125,18 @@ impl<W: Write + Drop> Caller<'_, '_, W> {
             }
             TncCall::Collect { channel } => self
                 .session
-                .tnc_collect(channel, buffers.block.as_mut_slice())?,
+                .tnc_collect(channel, buffers.block.as_mut_slice()),
         };
-        self.teller.called(number, "tnc", verb, event)
+        self.teller
+            .called(number, End::Tnc, verb, Told { event, buffers })
     }
 
     // Each byte is one call.
     fn tnc_hear(&mut self, buffers: &mut Buffers, number: u64, bytes: Hex) -> io::Result<()> {
         for (i, byte) in bytes.bytes(self.alloc)?.iter().enumerate() {
-            if let Some(event) = self.session.tnc_hear(*byte, buffers.wire.as_mut_slice())? {
-                self.teller.heard(number, "tnc", i + 1, event)?;
+            if let Some(event) = self.session.tnc_hear(*byte, buffers.wire.as_mut_slice()) {
+                self.teller
+                    .heard(number, End::Tnc, i + 1, Told { event, buffers })?;
             }
         }
         Ok(())

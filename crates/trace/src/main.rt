@@ -2,7 +2,6 @@
 #![tactic(auto)]
 
 mod calls;
-mod closing;
 mod script_lines;
 mod telling;
 
@@ -42,7 +41,7 @@ fn run<R: Read + Drop, W: Write + Drop>(
     let Settings { host, mut choices } = settings;
     let mut caller = Caller {
         alloc,
-        session: Session::new(alloc, host, &mut choices),
+        session: Session::new(host, &mut choices),
         notes,
         teller,
     };

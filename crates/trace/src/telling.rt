@@ -1,5 +1,6 @@
 // What is told: one line for each event.
-use replay::event::Event;
+use replay::ending::End;
+use replay::event::Told;
 use script::unreadable::Unreadable;
 use std::alloc::Global;
 use std::fmt::Display;
@@ -28,12 +29,12 @@ impl<W: Write + Drop> Teller<W> {
     }
 
     /// What a call of an end came to.
-    pub fn called(&mut self, line: u64, end: &str, verb: &str, event: Event) -> io::Result<()> {
+    pub fn called(&mut self, line: u64, end: End, verb: &str, event: Told) -> io::Result<()> {
         writeln!(self.out, "{line} {end} {verb} {event}")
     }
 
     /// What a byte came to, by its place among the bytes of the line.
-    pub fn heard(&mut self, line: u64, end: &str, place: usize, event: Event) -> io::Result<()> {
+    pub fn heard(&mut self, line: u64, end: End, place: usize, event: Told) -> io::Result<()> {
         writeln!(self.out, "{line} {end} hear byte {place} {event}")
     }
 

@@ -1,28 +1,19 @@
--- The note is taken out, and where the submission is refused it stands again among the others.
-use Rattle.std.proofs.Common.{cond, rules, sym, ap, ◌∙◌}
-use Rattle.replay.specs.Notes.{put_among}
-use Rattle.replay.proofs.Again.{was_granted, was_refused, taken, not_taken}
+-- Where the submission is refused, the note stands again where it stood.
+use Rattle.std.proofs.Common.{rules, ◌≡◌, sym, ap, ◌∙◌, slice_get, option_and_then, if◌then◌else◌}
+use Rattle.replay.specs.Notes.{unspent_of, without}
+use Rattle.replay.proofs.Again.{was_refused, handed_back, taken, as_before}
 use Rattle.replay.proofs.session.Session.host_again.Goals as goal
 
-pub returns-in_default-clause-kept : goal.returns-in_default-clause-kept
-returns-in_default-clause-kept c = not_taken _ _ _ (sym c.in_default.ensures.value) (search rules)
-
-pub returns-in-Ok-clause-kept : goal.returns-in-Ok-clause-kept
-returns-in-Ok-clause-kept c =
-    let left = c.take.new.self.kept.items in
-    let k = c.in-Some.field-0 in
-    let yes = was_granted _ c.in-Some.field-0.note c.in-Ok.block (sym c.submit_again.ensures.answer ∙ c.in-Ok.is) in
-    taken _ k _ _ (sym c.take.ensures.value ∙ c.in-Some.is) (left, c.take.ensures.rest, sym (ap (λ b. cond b left (put_among k left)) yes))
-
-pub returns-in_ok-put_back-in-Err-clause-kept : goal.returns-in_ok-put_back-in-Err-clause-kept
-returns-in_ok-put_back-in-Err-clause-kept c =
-    let left = c.take.new.self.kept.items in
-    let k = c.in-Some.field-0 in
-    let back = was_refused _ c.in-Some.field-0.note c.in-Err.field-0 (sym c.submit_again.ensures.answer ∙ c.in-Err.is) in
-    taken _ k _ _ (sym c.take.ensures.value ∙ c.in-Some.is) (
-      left,
-      c.take.ensures.rest,
-      c.in_ok-put_back-in-Err.ensures.ok
-          ∙ ap (λ n. put_among (record { number = k.number; note = n }) left) back.1
-          ∙ sym (ap (λ b. cond b left (put_among k left)) back.0),
-    )
+pub returns-in-Err-clause-notes : goal.returns-in-Err-clause-notes
+returns-in-Err-clause-notes c =
+    let old = c.args.notes.now in
+    let k = c.take-number.result in
+    let answer = sym c.submit_again.ensures.answer ∙ c.in-Err.is in
+    let back : c.put_back.new.self.kept.items ≡ old.kept.items = as_before old.kept.items c.take-number.new.self.kept.items _
+    c.in-Some.place k c.in-Err.field-0.note c.take-number.ensures.value
+    (handed_back _ k.note c.in-Err.field-0 answer)
+    c.take-number.ensures.kept c.put_back.ensures.kept in
+    let same : unspent_of c.put_back.new.self ≡ unspent_of old = search rules in
+    taken _ k _ _
+    (c.place.ensures.note ∙ ap (option_and_then (slice_get old.kept.items)) c.in-Some.is ∙ c.take-number.ensures.value)
+    (same ∙ sym (ap (λ b. if b then without c.args.number (unspent_of old) else unspent_of old) (was_refused _ k.note c.in-Err.field-0 answer)))
