@@ -24,7 +24,7 @@ abbrev pub stand_of : State → Stand
 stand_of state.Fresh = Fresh
 stand_of (state.Opening repeats) = Opening
 stand_of state.Idle = Idle
-stand_of (state.OnItsWay repeats) = OnItsWay
+stand_of (state.OnItsWay asked sent) = OnItsWay
 stand_of state.Down = Down
 
 -- the counts of a channel, unless they are of no block; what is submitted and not gone waits

@@ -79,7 +79,7 @@ impl Session<'_> {
             (host_of self.now.host.link) (tnc_of self.now.tnc.link) (unspent_of notes.now)) }
     {
         let mut lines = Vec::new(alloc);
-        lines.push(FinalLine::HostStands(Stand::of(&self.host().state())))?;
+        lines.push(FinalLine::HostStands(Stand::of(self.host().state())))?;
         self.push_channels(End::Host, &mut lines)?;
         self.push_channels(End::Tnc, &mut lines)?;
         push_notes(notes, &mut lines)?;
@@ -135,7 +135,7 @@ impl Stand {
             State::Fresh => Stand::Fresh,
             State::Opening { .. } => Stand::Opening,
             State::Idle => Stand::Idle,
-            State::OnItsWay { .. } => Stand::OnItsWay,
+            State::OnItsWay(_, _) => Stand::OnItsWay,
             State::Down => Stand::Down,
         }
     }

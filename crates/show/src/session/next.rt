@@ -104,7 +104,7 @@ fn act<'a>(ends: &Ends) -> Call<'a> {
     match ends.host.state() {
         State::Fresh | State::Down => Call::HostOpen,
         State::Idle => Call::HostStep,
-        State::Opening(_) | State::OnItsWay(_) => Call::HostTimer,
+        State::Opening { .. } | State::OnItsWay(_, _) => Call::HostTimer,
     }
 }
 
