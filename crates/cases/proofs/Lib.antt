@@ -2,3 +2,4 @@
 pub mod Proved
 mod StoreCases
 mod EndCases
+mod RunCase

@@ -16,6 +16,7 @@ use Rattle.reader.specs.Laws.{after}
 use Rattle.cases.specs.Proved.{information, ProvedCases}
 use Rattle.cases.proofs.StoreCases.{store_cases_hold}
 use Rattle.cases.proofs.EndCases.{end_cases_hold}
+use Rattle.cases.proofs.RunCase.{run_case_holds}
 
 goes : (d : Direction) (f : Frame) (body before buffer : List ℕ) (r : Result ℕ Refusal) → Body d body f → Writes d f before buffer r → length before ≡ 521 → (n : ℕ) × (r ≡ Ok n)
 goes d f body before buffer (Ok n) b w e = (n, refl)
@@ -55,4 +56,5 @@ proved_cases_hold = record {
   empty_list_body = refl;
   stores = store_cases_hold;
   ends = end_cases_hold;
+  run = run_case_holds;
 }

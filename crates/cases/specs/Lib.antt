@@ -1,4 +1,5 @@
 -- The cases that are proved.
 pub mod StoreCases
 pub mod EndCases
+pub mod RunCase
 pub mod Proved

@@ -15,6 +15,7 @@ use Rattle.reader.specs.Read.{at, fresh, fault_of, hears}
 use Rattle.reader.specs.Laws.{after}
 use Rattle.cases.specs.StoreCases.{StoreCases}
 use Rattle.cases.specs.EndCases.{EndCases}
+use Rattle.cases.specs.RunCase.{RunCase}
 
 -- a frame of the host on channel 33
 abbrev pub information : List ℕ → Frame
@@ -24,7 +25,8 @@ information block = record { channel = 33; code = 0; reset = false; toggle = fal
 abbrev pub empty_list : Frame
 empty_list = record { channel = 255; code = 1; reset = true; toggle = false; payload = list_of (replicate 64 false) }
 
--- Ten cases: six here, three of the stores, and the first timer; `empty_list_answer` of the ends belongs to the sixth.
+-- Eleven cases: six here, three of the stores, the first timer, and the run; `empty_list_answer` of the ends belongs to the
+-- sixth.
 pub record ProvedCases : Type 0 where
   -- a frame that may be sent goes into 521 bytes, and 520 give refusal 14
   pub wire_521 : (d : Direction) (f : Frame) (body before buffer : List ℕ) (r : Result ℕ Refusal) → Body d body f → Writes d f before buffer r
@@ -47,3 +49,5 @@ pub record ProvedCases : Type 0 where
   pub stores : StoreCases
   -- those of the ends
   pub ends : EndCases
+  -- the run in which a block is confirmed
+  pub run : RunCase

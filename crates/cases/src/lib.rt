@@ -20,10 +20,10 @@ mod strips;
 
 /// How many cases are proved, and that each of them holds of the rules.
 pub fn proved_cases() -> u8
-    ensures count { result ≡ 10 }
+    ensures count { result ≡ 11 }
     ensures hold { ProvedCases }
 {
-    10
+    11
 }
 
 /// How many of them are cases of the stores, and that each of those holds of the rules.

@@ -24,4 +24,3 @@ pub mod Wrote
 pub mod Handed
 pub mod Sides
 pub mod Plain
-pub mod Witness

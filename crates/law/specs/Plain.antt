@@ -1,5 +1,5 @@
--- The law in the words of its reader, one way and one channel; and a run in which a block is confirmed.
-use Rattle.std.specs.Prelude.{◌≡◌, ℕ, suc, pred, ◌<◌, ◌≤◌, ◌⊎◌, List, [], ◌∷◌, map, length, Contains, slice_index_or}
+-- The law in the words of its reader, one way and one channel.
+use Rattle.std.specs.Prelude.{◌≡◌, ℕ, suc, pred, ◌<◌, ◌≤◌, ◌⊎◌, List, [], map, length, Contains, slice_index_or}
 use Rattle.std.specs.List.Sorted.{IsStrictlyIncreasing}
 use Rattle.poll.specs.Channel.{last_channel}
 use Rattle.store.specs.Meaning.{Block, Meaning, plain}
@@ -38,11 +38,3 @@ pub record InWords (y : Way) (inn : Meaning) (c : ℕ) : Type 0 where
 pub record LawInWords : Type 0 where
   pub to_tnc : (setting : ℕ) (l : Limits) (w : World) → Run setting l w → (c : ℕ) → c ≤ last_channel → InWords w.to_tnc w.tnc_in c
   pub to_host : (setting : ℕ) (l : Limits) (w : World) → Run setting l w → (c : ℕ) → c ≤ last_channel → InWords w.to_host w.host_in c
-
--- a run in which a block was confirmed and handed out
-pub record Witness : Type 0 where
-  pub limits : Limits
-  pub world : World
-  pub run : Run 0 limits world
-  pub named : world.to_tnc.named 33 ≡ confirmed 1 ∷ []
-  pub collected : world.to_tnc.collected 33 ≡ plain (72 ∷ 69 ∷ 76 ∷ 76 ∷ 79 ∷ []) ∷ []
