@@ -4,7 +4,6 @@ use Rattle.reader.specs.Fault.{fault_number, words_of}
 use Rattle.order.specs.declared.words.Kind.TheVariants.{Byte}
 use Rattle.order.specs.Words as number
 use Rattle.store.specs.declared.refusal.Refusal.TheVariants as store
-use Rattle.ends.specs.declared.name.BlockName.{BlockName}
 use Rattle.ends.specs.declared.name.Went.{Went}
 use Rattle.ends.specs.declared.name.Went.TheVariants.{Confirmed, Doubtful}
 use Rattle.ends.specs.declared.refusal.Refusal.{Refusal}
