@@ -1,5 +1,5 @@
 -- How numbers are written with their words.
-use Rattle.std.specs.Prelude.{ℕ, List, ◌++◌, cond, ◌==◌, codes, decimal}
+use Rattle.std.specs.Prelude.{ℕ, List, ◌++◌, if◌then◌else◌, ◌==◌, codes, decimal}
 use Rattle.order.specs.declared.words.Kind.{Kind}
 use Rattle.order.specs.declared.words.Kind.TheVariants.{Byte, Block}
 use Rattle.order.specs.declared.words.Counted.{Counted}
@@ -17,4 +17,5 @@ many_of Byte = codes "bytes"
 many_of Block = codes "blocks"
 
 abbrev pub words_of : Counted → List ℕ
-words_of c = decimal c.number ++ (codes " " ++ cond (c.number == 1) (one_of c.kind) (many_of c.kind))
+words_of c = decimal c.number
+    ++ (codes " " ++ (if c.number == 1 then one_of c.kind else many_of c.kind))

@@ -52,8 +52,8 @@ pub fn compare(expected: &[Vec<u8>], collected: &[Vec<u8>]) -> Comparison
 
 // How many of the expected blocks came, and no more often than they were expected.
 fn come_once(expected: &[Vec<u8>], collected: &[Vec<u8>]) -> usize
-    ensures { result ≡
-        number_of (is_once (bytes_of expected.now) (bytes_of collected.now)) (bytes_of expected.now) }
+    ensures { let e = bytes_of expected.now in
+        result ≡ number_of (is_once e (bytes_of collected.now)) e }
 {
     let mut count = 0;
     for place in 0..expected.len() {
@@ -75,8 +75,8 @@ fn is_once(expected: &[Vec<u8>], collected: &[Vec<u8>], place: usize) -> bool
 
 // How many of the blocks are one copy more than the others have.
 fn surplus(blocks: &[Vec<u8>], others: &[Vec<u8>]) -> usize
-    ensures { result ≡
-        number_of (is_surplus (bytes_of blocks.now) (bytes_of others.now)) (bytes_of blocks.now) }
+    ensures { let b = bytes_of blocks.now in
+        result ≡ number_of (is_surplus b (bytes_of others.now)) b }
 {
     let mut count = 0;
     for place in 0..blocks.len() {

@@ -1,10 +1,8 @@
 -- How the program tells what the ends answer.
 use Rattle.std.specs.Prelude.{ℕ, List, [], ◌++◌, codes, decimal, Option, Some, None}
 use Rattle.reader.specs.Fault.{fault_number, words_of}
-use Rattle.order.specs.declared.words.Kind.TheVariants.{Byte}
-use Rattle.order.specs.Words as number
+use Rattle.order.specs.Summary.{byte_words}
 use Rattle.store.specs.declared.refusal.Refusal.TheVariants as store
-use Rattle.ends.specs.declared.name.BlockName.{BlockName}
 use Rattle.ends.specs.declared.name.Went.{Went}
 use Rattle.ends.specs.declared.name.Went.TheVariants.{Confirmed, Doubtful}
 use Rattle.ends.specs.declared.refusal.Refusal.{Refusal}
@@ -69,9 +67,6 @@ abbrev pub refusal_words : Refusal → List ℕ
 refusal_words r =
     codes "refusal " ++ (decimal (refusal_number r)
     ++ (codes ": " ++ (refusal_text r ++ codes ".")))
-
-abbrev pub byte_words : ℕ → List ℕ
-byte_words n = number.words_of (number.counted n Byte)
 
 abbrev pub dropped_words : Refusal → List ℕ
 dropped_words (refusal.Reader fault) =

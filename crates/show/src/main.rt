@@ -1,6 +1,6 @@
 // An order goes from the terminal to the modem over a line with noise, loss and repeats, and the
-// modem's side replies. What each call answers is told in words, and at the end what became of every
-// block.
+// modem's side replies. What each call answers is told in words, and at the end what became of
+// every block.
 #![tactic(auto)]
 
 mod cargo;

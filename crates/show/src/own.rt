@@ -1,5 +1,5 @@
-// The program's own texts: what either side says beside the order, and the order that is sent where standard input is empty, which is long
-// enough for three blocks.
+// The program's own texts: what either side says beside the order, and the order that is sent where
+// standard input is empty, which is long enough for three blocks.
 
 /// What waits at the modem before the link opens.
 pub const GREETING: &str = "The agent stands by for orders.";

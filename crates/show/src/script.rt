@@ -1,5 +1,5 @@
-// What the line does to each frame, in the order in which they are written; after the last, all come clear. It is the same at
-// each run.
+// What the line does to each frame, in the order in which they are written; after the last, all
+// come clear. It is the same at each run.
 
 /// What becomes of one frame on its way.
 #[derive(Clone, Copy, PartialEq, Eq)]

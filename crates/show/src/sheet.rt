@@ -36,8 +36,8 @@ pub fn print<A: Store, B: Store, C: Store, D: Store>(
     Ok(())
 }
 
-// What became of all that went one way. What was delivered was collected by the other end's program,
-// or waits there.
+// What became of all that went one way. What was delivered was collected by the other end's
+// program, or waits there.
 fn print_direction(
     rt: &HostRuntime,
     name: &str,
