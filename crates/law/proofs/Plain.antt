@@ -198,14 +198,17 @@ module _ (y : Way) (out inn : Meaning) (c : ℕ) (h : Delivers y out inn c) wher
       (λ (up : suc names ≤ k). let is : names < k = omega (arith, up) in inr (inr (is, (λ v. let l = t.named_low k (inl v) in omega (arith, l, is)), (λ v. let l = t.named_low k (inr v) in omega (arith, l, is)))))
       (cases_lt k (suc names))
 
-  words : (ws extra : List Block) → AtMostFirst ws extra → ws ≡ drop names (y.submitted c) → delivered y inn c ≡ h.sure ++ extra → InWords y inn c
+  words : (ws extra : List Block) → AtMostFirst ws extra → ws ≡ drop names (y.submitted c) → delivered y inn c ≡ h.sure ++ extra → InWords y out inn c
   words ws _ none_of is exact = record {
     come = t.come;
     ascending = t.ascending;
     delivered_are = exact ∙ append-nil h.sure ∙ t.blocks;
     confirmed_came = t.has;
     only = λ k w. ⊎_elim (λ v. inl v) (λ v. inr (inl v)) (t.only k w);
+    in_order = h.named_in_order;
+    within = h.within;
     one_of_three = three;
+    waiting = h.waiting;
   }
   words _ _ (the_first {b} {blocks}) is exact =
       let more : names < length (y.submitted c) = omega (arith, ap length is, length-drop names (y.submitted c)) in
@@ -217,10 +220,13 @@ module _ (y : Way) (out inn : Meaning) (c : ℕ) (h : Delivers y out inn c) wher
         delivered_are = exact ∙ ap₂ (λ d e. d ++ e ∷ []) t.blocks block_is ∙ sym (map_push (block_at (y.submitted c)) t.come (suc names));
         confirmed_came = λ k w. before t.come (suc names) k (t.has k w);
         only = λ k w. ⊎_elim (λ v. ⊎_elim (λ u. inl u) (λ u. inr (inl u)) (t.only k v)) (λ e. inr (inr (sym e, omega (arith, e, more)))) (in_push t.come (suc names) k w);
+        in_order = h.named_in_order;
+        within = h.within;
         one_of_three = three;
+        waiting = h.waiting;
       }
 
-  pub in_words : InWords y inn c
+  pub in_words : InWords y out inn c
   in_words = words (out.waiting c) h.extra h.first h.waiting h.exact
 
 pub law_in_words : LawInWords

@@ -1,22 +1,30 @@
--- The delivery law: what was submitted, confirmed, doubtful, waiting and delivered, after each call of any run.
-use Rattle.std.specs.Prelude.{◌≡◌, ℕ, zero, suc, ◌<◌, ◌≤◌, false, ◌↔◌, List, [], ◌∷◌, ◌++◌, length, drop, nat_lt, slice_index_or}
+-- The delivery law: what was submitted, confirmed, doubtful, waiting and delivered, after each call
+-- of any run.
+use Rattle.std.specs.Prelude.{◌≡◌, ℕ, zero, suc, ◌<◌, ◌≤◌, false, ◌↔◌, List, [], ◌∷◌, ◌++◌, length}
+use Rattle.std.specs.Prelude.{drop, nat_lt, slice_index_or, ⊤}
 use Rattle.poll.specs.Channel.{last_channel}
 use Rattle.wire.specs.Wire.{longest_wire}
 use Rattle.store.specs.Meaning.{Block, Meaning, plain}
 use Rattle.ends.specs.Limits.{last_number}
-use Rattle.ends.specs.Host.{State, fresh, opening, idle, on_its_way, down}
-use Rattle.law.specs.Runs.{Named, confirmed, doubtful, Way, World, Limits, Call, host_timer, act, Allowed, NotRepeated, Run, RepeatsNothing}
+use Rattle.ends.specs.Host.{State, opening, on_its_way, down}
+use Rattle.law.specs.Runs.{Named, confirmed, doubtful, Way, World, Limits, Call, host_timer, act}
+use Rattle.law.specs.Runs.{Allowed, NotRepeated, Run, RepeatsNothing}
 
 -- NOTHING LOST UNSAID, NOTHING DOUBLED
 
--- the submissions of a channel, what their sender has named of them, in order of naming, and blocks:
--- the numbers named are 1, 2, 3 and so on, and the blocks are every confirmed one and any number of the doubtful ones, in order, each once
+-- the submissions of a channel, what their sender has named of them, in order of naming, and
+-- blocks: the numbers named are 1, 2, 3 and so on, and the blocks are every confirmed one and any
+-- number of the doubtful ones, in order, each once
 pub data Settled (submitted : List Block) : List Named → List Block → Type 0 where
   unnamed : Settled submitted [] []
   came : (x : List Named) (d : List Block) → length x < length submitted → Settled submitted x d
-      → Settled submitted (x ++ confirmed (suc (length x)) ∷ []) (d ++ slice_index_or submitted (length x) (plain []) ∷ [])
+      → Settled submitted
+      (x ++ confirmed (suc (length x)) ∷ [])
+      (d ++ slice_index_or submitted (length x) (plain []) ∷ [])
   kept : (x : List Named) (d : List Block) → length x < length submitted → Settled submitted x d
-      → Settled submitted (x ++ doubtful (suc (length x)) ∷ []) (d ++ slice_index_or submitted (length x) (plain []) ∷ [])
+      → Settled submitted
+      (x ++ doubtful (suc (length x)) ∷ [])
+      (d ++ slice_index_or submitted (length x) (plain []) ∷ [])
   lost : (x : List Named) (d : List Block) → length x < length submitted → Settled submitted x d
       → Settled submitted (x ++ doubtful (suc (length x)) ∷ []) d
 
@@ -27,7 +35,7 @@ pub data AtMostFirst : List Block → List Block → Type 0 where
 
 -- no doubt was reported
 abbrev pub NoDoubt : List Named → Type 0
-NoDoubt [] = Unit {0}
+NoDoubt [] = ⊤
 NoDoubt (confirmed n ∷ x) = NoDoubt x
 NoDoubt (doubtful n ∷ x) = ⊥
 
@@ -41,16 +49,18 @@ abbrev pub count_from : ℕ → ℕ → List ℕ
 count_from k zero = []
 count_from k (suc n) = k ∷ count_from (suc k) n
 
--- delivered on a channel: the blocks that its collects gave, followed by those that still wait in the receiving store
+-- delivered on a channel: the blocks that its collects gave, followed by those that still wait in
+-- the receiving store
 abbrev pub delivered : Way → Meaning → ℕ → List Block
 delivered y inn c = y.collected c ++ inn.waiting c
 
 -- One way and one channel; out is the sending store, inn the receiving one.
--- settled, first, exact: delivered are all submissions that are confirmed, any number of those that are doubtful, and of
--- those that wait the first or none; they stand in the order in which they were submitted, none twice and none changed.
--- named_in_order, within: the numbers named are 1 to some n, each once, and there are at least n submissions; so each
--- submission is confirmed, doubtful or, above n, waiting, and just one of these. waiting: these last are what lies in the
--- sending store, in order.
+-- settled, first, exact: delivered are all submissions that are confirmed, any number of those that
+-- are doubtful, and of those that wait the first or none; they stand in the order in which they
+-- were submitted, none twice and none changed.
+-- named_in_order, within: the numbers named are 1 to some n, each once, and there are at least n
+-- submissions; so each submission is confirmed, doubtful or, above n, waiting, and just one of
+-- these. waiting: these last are what lies in the sending store, in order.
 -- whole: until a doubt is reported, delivered is a beginning of the submissions.
 pub record Delivers (y : Way) (out inn : Meaning) (c : ℕ) : Type 0 where
   pub sure : List Block
@@ -61,7 +71,8 @@ pub record Delivers (y : Way) (out inn : Meaning) (c : ℕ) : Type 0 where
   pub named_in_order : numbers (y.named c) ≡ count_from 1 (length (y.named c))
   pub within : length (y.named c) ≤ length (y.submitted c)
   pub waiting : out.waiting c ≡ drop (length (y.named c)) (y.submitted c)
-  pub whole : NoDoubt (y.named c) → (rest : List Block) × (y.submitted c ≡ delivered y inn c ++ rest)
+  pub whole : NoDoubt (y.named c)
+      → (rest : List Block) × (y.submitted c ≡ delivered y inn c ++ rest)
 
 -- both ways; and the number that a sender's submit answered last is the count of its submissions
 pub record Delivery (w : World) (c : ℕ) : Type 0 where
@@ -81,13 +92,12 @@ pub record TakesDown (w v : World) : Type 0 where
 
 -- a frame is unanswered; in opening it is the reset
 abbrev pub Unanswered : State → Type 0
-Unanswered fresh = ⊥
-Unanswered (opening r) = Unit {0}
-Unanswered idle = ⊥
-Unanswered (on_its_way q r) = Unit {0}
-Unanswered down = ⊥
+Unanswered (opening r) = ⊤
+Unanswered (on_its_way q r) = ⊤
+Unanswered s = ⊥
 
--- a granted timer, and the frame that is unanswered has had all its repeats: as many as the run is set to
+-- a granted timer, and the frame that is unanswered has had all its repeats: as many as the run is
+-- set to
 pub record UsedUp (setting : ℕ) (w : World) (c : Call) : Type 0 where
   pub size : ℕ
   pub is_timer : c ≡ host_timer size
@@ -95,10 +105,13 @@ pub record UsedUp (setting : ℕ) (w : World) (c : Call) : Type 0 where
   pub unanswered : Unanswered w.host.state
   pub had : w.tries ≡ setting
 
--- THE LAW, of every run that begins with new ends and with nothing in the stores, with any setting and limits: the worlds
--- that a run passes through are reached by runs too, so it holds after each call
+-- THE LAW, of every run that begins with new ends and with nothing in the stores, with any setting
+-- and limits: the worlds that a run passes through are reached by runs too, so it holds after each
+-- call
 
 pub record DeliveryLaw : Type 0 where
-  pub delivers : (setting : ℕ) (l : Limits) (w : World) → Run setting l w → (c : ℕ) → c ≤ last_channel → Delivery w c
-  pub falls : (setting : ℕ) (l : Limits) (w : World) (r : Run setting l w) → RepeatsNothing r → (c : Call) → Allowed c w → NotRepeated c w
+  pub delivers : (setting : ℕ) (l : Limits) (w : World) → Run setting l w
+      → (c : ℕ) → c ≤ last_channel → Delivery w c
+  pub falls : (setting : ℕ) (l : Limits) (w : World) (r : Run setting l w) → RepeatsNothing r
+      → (c : Call) → Allowed c w → NotRepeated c w
       → TakesDown w (act c w) ↔ UsedUp setting w c

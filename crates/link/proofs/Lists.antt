@@ -10,13 +10,13 @@ use Rattle.link.specs.declared.event.Event.{Event}
 use Rattle.link.specs.declared.call.Call.{Call}
 use Rattle.link.specs.Played.{Both, Step, call_of, law_call, Told, told, LawOf, One, Each, Gave, Seen, GoesOn, Plays}
 
-pub each_more : (s t u : Both) (xs : List Step) (e : Event) → Each s xs t → One t e u → Each s (xs ++ record { event = e; then = u } ∷ []) u
+pub each_more : (s t u : Both) (xs : List Step) (e : Event) → Each s xs t → One t e u → Each s (xs ++ record { event = e; next = u } ∷ []) u
 each_more s t u [] e is one = (subst (λ (x : Both). One x e u) (sym is) one, refl)
-each_more s t u (x ∷ xs) e each one = (each.0, each_more x.then t u xs e each.1 one)
+each_more s t u (x ∷ xs) e each one = (each.0, each_more x.next t u xs e each.1 one)
 
 module _ {W : Type 0} (gives : W → Option DoubtNote → W → Type 0) (sees : W → Event → List ℕ → List ℕ → W → Type 0) where
-  pub seen_more : (v u asked saw : W) (xs : List Step) (e : Event) (t : Both) → Seen gives sees v xs u → Gave gives sees e u asked → sees asked e t.wire t.block saw → Seen gives sees v (xs ++ record { event = e; then = t } ∷ []) saw
-  seen_more v u asked saw [] e t is gave told = (asked, saw, subst (λ (x : W). Gave gives sees e x asked) (sym is) gave, told, refl)
+  pub seen_more : (v u asked saw : W) (xs : List Step) (e : Event) (t : Both) → Seen gives sees v xs u → Gave gives e u asked → sees asked e t.wire t.block saw → Seen gives sees v (xs ++ record { event = e; next = t } ∷ []) saw
+  seen_more v u asked saw [] e t is gave told = (asked, saw, subst (λ (x : W). Gave gives e x asked) (sym is) gave, told, refl)
   seen_more v u asked saw (x ∷ xs) e t seen gave told = (seen.0, seen.1, seen.2, seen.3, seen_more seen.1 u asked saw xs e t seen.4 gave told)
 
 -- a step goes on with the run, and the rest with what it then is
@@ -31,7 +31,7 @@ goes_by s t T xs (Some c) holds setting l w r h n rest = λ i ok.
 pub goes_on : (s t : Both) (xs : List Step) → Each s xs t → (setting : ℕ) (l : Limits) (w : World) (r : Run setting l w) → host_side w ≡ s.host → tnc_side w ≡ s.tnc → GoesOn s xs r
 goes_on s t [] each setting l w r h n = tt
 goes_on s t (x ∷ xs) each setting l w r h n =
-    goes_by s x.then (told x.event x.then) xs (law_call x.event s) each.0.law setting l w r h n (λ v q. goes_on x.then t xs each.1 setting l v q)
+    goes_by s x.next (told x.event x.next) xs (law_call x.event s) each.0.law setting l w r h n (λ v q. goes_on x.next t xs each.1 setting l v q)
 
 -- A LIST THAT WAS PLAYED
 
@@ -40,9 +40,9 @@ module _ {W : Type 0} (gives : W → Option DoubtNote → W → Type 0) (sees : 
   none_played s v = record { steps = []; calls_are = refl; each = refl; seen = refl; law = λ setting l w r h n. tt }
 
   pub more_played : (calls : List Call) (i : ℕ) (d : Call) (s t u : Both) (v x asked saw : W) (e : Event) → i < length calls → Plays gives sees (take i calls) s t v x
-      → call_of e ≡ get_or calls i d → One t e u → Gave gives sees e x asked → sees asked e u.wire u.block saw → Plays gives sees (take (i + 1) calls) s u v saw
+      → call_of e ≡ get_or calls i d → One t e u → Gave gives e x asked → sees asked e u.wire u.block saw → Plays gives sees (take (i + 1) calls) s u v saw
   more_played calls i d s t u v x asked saw e low before is one gave told =
-      let step : Step = record { event = e; then = u } in
+      let step : Step = record { event = e; next = u } in
       let steps = before.steps ++ step ∷ [] in
       let each = each_more s t u before.steps e before.each one in
       record {

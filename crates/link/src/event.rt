@@ -7,7 +7,8 @@ use host::answer::{Fall, Heard as HostHeard, Returned, Stepped, Timed};
 use host::note::DoubtNote;
 use tnc::answer::Heard as TncHeard;
 
-/// A call with its arguments, and what the end answered. A doubt note that it hands out, or hands back, is in it.
+/// A call with its arguments, and what the end answered. A doubt note that it hands out, or hands
+/// back, is in it.
 pub enum Event<'a> {
     HostOpen(Result<usize, Refusal>),
     HostStep(Result<Stepped, Refusal>),

@@ -6,4 +6,4 @@ use Rattle.link.proofs.pair.Ends.play.Given as goal
 abbrev pub invariant-loop-call : goal.invariant-loop-call
 invariant-loop-call g l =
     let at = both g.A.Store.meaning g.B.Store.meaning g.C.Store.meaning g.D.Store.meaning in
-    Plays g.W.Observer.gives g.W.Observer.sees (take l.call-index l.calls) (at l.initial.self l.initial.s l.initial.wire l.initial.block) (at l.self l.s l.wire l.block) l.initial.observer l.observer
+    Plays g.W.Observer.gives g.W.Observer.sees (take l.call-index l.calls) (at l.initial.self l.initial.stores l.initial.wire l.initial.block) (at l.self l.stores l.wire l.block) l.initial.observer l.observer
