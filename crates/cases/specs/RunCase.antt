@@ -1,5 +1,6 @@
 -- A run with 0 repeats in which a block is confirmed, call by call.
-use Rattle.std.specs.Prelude.{◌≡◌, ℕ, false, true, List, [], ◌∷◌, ◌++◌, map, None, Some, Option, Ok, Result}
+use Rattle.std.specs.Prelude.{◌≡◌, ℕ, false, true, List, [], ◌∷◌, ◌++◌, map, None, Some, Option, Ok}
+use Rattle.std.specs.Prelude.{Result}
 use Rattle.reader.specs.Read.{hears}
 use Rattle.store.specs.Meaning.{Block, plain}
 use Rattle.ends.specs.declared.refusal.Refusal.{Refusal}

@@ -10,8 +10,9 @@ pub mod case;
 mod from_host;
 mod from_tnc;
 
-// A frame of either direction is written as its row has it, and heard and read so. (Which type of frames it is can't be a
-// parameter here: that type has the lifetime of the payload, which is this function's own.)
+// A frame of either direction is written as its row has it, and heard and read so. (Which type of
+// frames it is can't be a parameter here: that type has the lifetime of the payload, which is this
+// function's own.)
 fn check_frame(
     rt: &impl Abort,
     heap: Global,

@@ -1,5 +1,6 @@
-// Where the writers refuse a frame: they say why, and leave the buffer as it was. The limits are worked by hand from
-// the rules: a buffer of 521 bytes, a block of 1 to 256, a text of at most 255 and no 00.
+// Where the writers refuse a frame: they say why, and leave the buffer as it was. The limits are
+// worked by hand from the rules: a buffer of 521 bytes, a block of 1 to 256, a text of at most 255
+// and no 00.
 use crate::frames::case::BLANK;
 use frame::form::Direction;
 use frame::frames::{HostFrame, Parsed, TncFrame};
@@ -8,7 +9,8 @@ use std::process::Abort;
 use std::test::Fail;
 use wire::writer::{WIRE, write};
 
-/// Frames that differ in their code alone, the size of the buffer, and the number of the refusal, if they are refused.
+/// Frames that differ in their code alone, the size of the buffer, and the number of the refusal,
+/// if they are refused.
 struct WriteCase {
     direction: Direction,
     codes: &'static [u8],

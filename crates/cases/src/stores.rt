@@ -1,6 +1,7 @@
-// The same tests run on a store of each kind: refusals and their order, limits, contents, channels, and use
-// many times over. The expected values are worked by hand from the rules. (The runtime and the store go through all of them
-// side by side: each assertion names the runtime, and in a struct of both it would be one name more.)
+// The same tests run on a store of each kind: refusals and their order, limits, contents, channels,
+// and use many times over. The expected values are worked by hand from the rules. (The runtime and
+// the store go through all of them side by side: each assertion names the runtime, and in a struct
+// of both it would be one name more.)
 use frame::form::BLOCK;
 use shelf::Shelf;
 use std::process::Abort;
@@ -11,7 +12,8 @@ use strip::Strip;
 
 const LONG: usize = 257;
 
-/// A call of a store and what it must answer: the refusal's number, or none; a block; a number of blocks.
+/// A call of a store and what it must answer: the refusal's number, or none; a block; a number of
+/// blocks.
 enum Try {
     Put(u8, &'static [u8], Option<u8>),
     Drop(u8, Option<u8>),
@@ -20,7 +22,8 @@ enum Try {
     Total(usize),
 }
 
-// On an empty store each call refuses what it must, the first reason first, and nothing comes to wait.
+// On an empty store each call refuses what it must, the first reason first, and nothing comes to
+// wait.
 static REFUSED_IN_ORDER: [Try; 8] = [
     Try::Put(64, &[1], Some(10)),
     Try::Put(255, &[], Some(10)),
@@ -32,7 +35,8 @@ static REFUSED_IN_ORDER: [Try; 8] = [
     Try::Total(0),
 ];
 
-// Blocks of every length at the limits, of AA and of 00, come out as they went in; the highest channel goes.
+// Blocks of every length at the limits, of AA and of 00, come out as they went in; the highest
+// channel goes.
 static BYTES: [Try; 9] = [
     Try::Put(63, &[0xaa; BLOCK], None),
     Try::Put(0, &[0], None),

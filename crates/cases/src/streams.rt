@@ -10,8 +10,8 @@ use table::StreamCase;
 
 mod table;
 
-// Adds what a byte brought to the events; its place is counted from 1. (A function, and no `Display`: what a byte brought
-// is an answer, and beside it a body that the reader lends.)
+// Adds what a byte brought to the events; its place is counted from 1. (A function, and no
+// `Display`: what a byte brought is an answer, and beside it a body that the reader lends.)
 fn tell(
     events: &mut String,
     place: usize,

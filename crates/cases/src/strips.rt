@@ -1,4 +1,5 @@
-// Strips alone: which areas they take, their limits, and the bytes of the area, worked by hand from the layout of records.
+// Strips alone: which areas they take, their limits, and the bytes of the area, worked by hand from
+// the layout of records.
 use crate::stores::refused;
 use std::alloc::Global;
 use std::process::Abort;
@@ -39,7 +40,8 @@ fn limit_in(rt: &impl Abort, heap: Global, len: usize) -> Result<Option<usize>, 
     }
 }
 
-// A record is channel, length less 1, bytes. A drop closes the gap, and the bytes past the new end stay.
+// A record is channel, length less 1, bytes. A drop closes the gap, and the bytes past the new end
+// stay.
 #[test]
 fn records(rt: HostRuntime) {
     let mut area = [0x55; 516];

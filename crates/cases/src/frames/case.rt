@@ -1,5 +1,5 @@
-// A row of a table of frames, and what is checked of it in either direction. (Here and in the other tables the runtime and
-// the number of the row go along side by side: each assertion names both.)
+// A row of a table of frames, and what is checked of it in either direction. (Here and in the other
+// tables the runtime and the number of the row go along side by side: each assertion names both.)
 use frame::form::Direction;
 use frame::frames::{Parsed, read};
 use frame::head::{Address, Head};

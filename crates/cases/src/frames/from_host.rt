@@ -1,5 +1,5 @@
-// Host frames as an independent packet radio program writes them. It was built from its distributed source, and a
-// public library for CRC-16/X-25 computed the same frames.
+// Host frames as an independent packet radio program writes them. It was built from its distributed
+// source, and a public library for CRC-16/X-25 computed the same frames.
 use super::case::FrameCase;
 
 pub static FRAMES: [FrameCase<'static>; 28] = [

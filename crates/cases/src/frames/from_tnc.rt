@@ -1,5 +1,5 @@
-// TNC frames, at least one of each code, with the longest payloads and the general poll. Their checksums are those of
-// a public library for CRC-16/X-25.
+// TNC frames, at least one of each code, with the longest payloads and the general poll. Their
+// checksums are those of a public library for CRC-16/X-25.
 use super::case::FrameCase;
 
 pub static FRAMES: [FrameCase<'static>; 16] = [

@@ -1,8 +1,9 @@
-// Byte streams and what a fresh reader says of them, as worked by a separate executable model of the reader's rules.
+// Byte streams and what a fresh reader says of them, as worked by a separate executable model of
+// the reader's rules.
 use frame::form::Direction;
 
-/// A stream, and its events as one text: each is the place of its byte, from 1, then a fault's number and count
-/// with a slash between, or the body that passed.
+/// A stream, and its events as one text: each is the place of its byte, from 1, then a fault's
+/// number and count with a slash between, or the body that passed.
 pub struct StreamCase {
     pub direction: Direction,
     pub stream: &'static str,
