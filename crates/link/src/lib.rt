@@ -6,4 +6,3 @@ pub mod call;
 pub mod event;
 pub mod observer;
 pub mod pair;
-pub mod playing;
