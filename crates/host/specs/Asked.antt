@@ -8,9 +8,6 @@ use Rattle.ends.specs.Kept.{block_of}
 use Rattle.host.specs.declared.asked.Asked.{Asked}
 use Rattle.host.specs.declared.asked.Asked.TheVariants as asked
 
-abbrev pub poll_request : ℕ → Bool → Bool → Request
-poll_request c reset toggle = record { channel = c; reset = reset; toggle = toggle; load = poll }
-
 abbrev pub block_request : ℕ → Bool → Bool → Block → Request
 block_request c reset toggle b = record { channel = c; reset = reset; toggle = toggle; load = information b }
 

@@ -1,12 +1,10 @@
 // What the host's calls answer.
 ghost use Rattle.std.specs.Prelude.{◌≡◌};
-ghost use Rattle.ends.specs.Named.{went_by};
 ghost use Rattle.host.specs.Cause.{cause_number};
 ghost use Rattle.host.specs.StepRule.{step_rule_number};
-ghost use Rattle.host.specs.Answers.{doubt_word, rule_word, timed_is, timed_length};
 
 use crate::note::DoubtNote;
-use ends::name::{BlockName, Went};
+use ends::name::BlockName;
 use ends::refusal::Refusal;
 
 /// Why the link went down.
@@ -87,59 +85,4 @@ pub enum Heard {
 pub struct Returned {
     pub refusal: Refusal,
     pub note: DoubtNote,
-}
-
-impl Fall {
-    /// The block that was on its way, if one was: it is doubtful now.
-    pub fn went(&self) -> Option<Went>
-        ensures { result ≡ went_by (doubt_word self.now.doubt) }
-    {
-        let Some(note) = &self.doubt else {
-            return None;
-        };
-        Some(Went::Doubtful(BlockName {
-            channel: note.channel(),
-            number: note.number(),
-        }))
-    }
-}
-
-impl Timed {
-    /// The block that it names, if it names one.
-    pub fn went(&self) -> Option<Went>
-        ensures { result ≡ went_by (timed_is self.now) }
-    {
-        match self {
-            Timed::Repeated(_) => None,
-            Timed::Down(fall) => fall.went(),
-        }
-    }
-
-    /// How many bytes it sent; 0 where the link went down.
-    pub fn sent(&self) -> usize
-        ensures { result ≡ timed_length self.now }
-    {
-        match self {
-            Timed::Repeated(sent) => *sent,
-            Timed::Down(_) => 0,
-        }
-    }
-}
-
-impl Heard {
-    /// The block that it names, if it names one.
-    pub fn went(&self) -> Option<Went>
-        ensures { result ≡ went_by (rule_word self.now) }
-    {
-        match self {
-            Heard::Confirmed(block) => Some(Went::Confirmed(*block)),
-            Heard::Down(fall) => fall.went(),
-            Heard::Stale
-            | Heard::Opened
-            | Heard::BlockRefused
-            | Heard::NothingThere
-            | Heard::Received
-            | Heard::Listed => None,
-        }
-    }
 }
