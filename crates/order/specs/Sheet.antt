@@ -27,13 +27,13 @@ with_outcome o w = count_by (is_outcome o) w.outcomes.now
 
 abbrev pub way_counts : Way → WayCounts
 way_counts w = record {
-      submitted = length w.outcomes.now;
-      confirmed = with_outcome Confirmed w;
-      doubtful = with_outcome Doubtful w;
-      waiting = with_outcome Waiting w;
-      collected = length w.collected.now;
-      there = w.there;
-    }
+  submitted = length w.outcomes.now;
+  confirmed = with_outcome Confirmed w;
+  doubtful = with_outcome Doubtful w;
+  waiting = with_outcome Waiting w;
+  collected = length w.collected.now;
+  there = w.there;
+}
 
 -- the order against what came before the farewell was submitted; what came after it is the
 -- farewell, or strange
@@ -54,9 +54,9 @@ bytes_count blocks = length (flat_map vec_items blocks)
 
 abbrev pub texts_part : {Y Z : Type 0} → List (Vec ℕ Y) → List (Vec ℕ Z) → TextsCame
 texts_part texts collected = record {
-      came = comparison (bytes_of texts) (bytes_of collected);
-      len = bytes_count collected;
-    }
+  came = comparison (bytes_of texts) (bytes_of collected);
+  len = bytes_count collected;
+}
 
 pub record IsSheetOf (sent : Sent) (m t : Way) (before_farewell : ℕ) (s : Sheet) : Type 0 where
   pub to_modem : s.to_modem ≡ way_counts m

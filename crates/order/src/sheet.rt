@@ -225,7 +225,9 @@ impl fmt::Display for CameWords {
 
     fn fmt<W: fmt::Write>(&self, f: &mut fmt::Formatter<W>) -> fmt::Result {
         let WayCounts {
-            collected, there, ..
+            collected,
+            there,
+            ..
         } = self.0;
         write!(
             f,

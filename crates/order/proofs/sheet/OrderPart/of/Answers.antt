@@ -11,17 +11,17 @@ use Rattle.order.proofs.sheet.OrderPart.of.Goals as goal
 
 abbrev part : Sent → Comparison → ℕ → ℕ → OrderPart
 part s came farewells after = record {
-      came = record { came = came; len = length s.order.now };
-      farewells = farewells;
-      strange = came.strange + (after - farewells);
-    }
+  came = record { came = came; len = length s.order.now };
+  farewells = farewells;
+  strange = came.strange + (after - farewells);
+}
 
 part_is : {Z : Type 0} (s : Sent) (all before after : List (Vec ℕ Z)) (n farewells : ℕ) (came : Comparison) (expected : List (List ℕ))
     → before ≡ take n all → after ≡ drop n all → expected ≡ blocks_of s.order.now → came ≡ comparison expected (bytes_of before) → farewells ≡ copies s.farewell.now (bytes_of after)
     → part s came farewells (length after) ≡ order_part s all n
 part_is s all before after n farewells came expected front back listed came_is farewells_is =
     let c : came ≡ comparison (blocks_of s.order.now) (bytes_of (take n all)) =
-        came_is ∙ ap (λ e. comparison e (bytes_of before)) listed ∙ ap (λ b. comparison (blocks_of s.order.now) (bytes_of b)) front in
+    came_is ∙ ap (λ e. comparison e (bytes_of before)) listed ∙ ap (λ b. comparison (blocks_of s.order.now) (bytes_of b)) front in
     let f : farewells ≡ copies s.farewell.now (bytes_of (drop n all)) = farewells_is ∙ ap (λ a. copies s.farewell.now (bytes_of a)) back in
     ap (λ k. part s k farewells (length after)) c
     ∙ ap (λ k. part s (comparison (blocks_of s.order.now) (bytes_of (take n all))) k (length after)) f
