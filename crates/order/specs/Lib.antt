@@ -3,5 +3,6 @@ pub mod Blocks
 pub mod Comparison
 pub mod LineRule
 pub mod Outcome
+pub mod Sheet
 pub mod Summary
 pub mod Words

@@ -17,7 +17,7 @@ order_words o = if is_whole o.came
 
 abbrev pub texts_words : TextsCame → List ℕ
 texts_words t = if is_whole t.came
-    then codes "The modem's two texts came once, the same byte for byte: "
+    then codes "The modem's texts came once, the same byte for byte: "
     ++ (byte_words t.len ++ codes ".")
-    else (codes "The modem's two texts did not come as they were sent: "
+    else (codes "The modem's texts did not come as they were sent: "
     ++ (byte_words t.len ++ codes " came."))

@@ -5,5 +5,6 @@ pub mod blocks;
 pub mod comparison;
 pub mod line_rule;
 pub mod outcome;
+pub mod sheet;
 pub mod summary;
 pub mod words;

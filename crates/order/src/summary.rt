@@ -44,12 +44,12 @@ impl fmt::Display for TextsCame {
         if self.came.is_whole() {
             write!(
                 f,
-                "The modem's two texts came once, the same byte for byte: {len}."
+                "The modem's texts came once, the same byte for byte: {len}."
             )
         } else {
             write!(
                 f,
-                "The modem's two texts did not come as they were sent: {len} came."
+                "The modem's texts did not come as they were sent: {len} came."
             )
         }
     }

@@ -10,10 +10,14 @@ mod passing;
 mod record;
 mod script;
 mod session;
+mod settled;
 mod sheet;
+mod there;
 mod words;
 
 use crate::session::{CHANNEL, Session};
+use crate::sheet::sheet;
+use crate::there::There;
 use anyhow::{Result, anyhow};
 use frame::form::BLOCK;
 use host::host::Host;
@@ -57,7 +61,9 @@ fn main(rt: HostRuntime) -> Result<()> {
     let mut session = Session::new(&rt, text.as_slice());
     play(&mut ends, &mut stores, &mut session);
     let record = session.finish()?;
-    sheet::print(&rt, text.as_slice(), &record, &stores)
+    let sheet = sheet(rt.alloc(), text.as_slice(), &record, There::of(&stores))?;
+    println!(rt; "{sheet}")?;
+    Ok(())
 }
 
 // The order from standard input, or one of our own.

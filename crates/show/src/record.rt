@@ -1,7 +1,11 @@
 // What the program keeps of its run, for what it tells at the end.
+ghost use Rattle.std.specs.Prelude.{◌≡◌};
+
 use crate::cargo::Cargo;
+use crate::settled::Settled;
 use order::line_rule::Passed;
 use order::outcome::Outcome;
+use order::sheet::Way;
 use std::alloc::{AllocError, Global};
 
 /// What went either way.
@@ -38,12 +42,6 @@ impl Record {
             before_farewell: 0,
         }
     }
-
-    /// What the modem's program collected before the farewell was submitted, and after.
-    pub fn order_and_farewell(&self) -> (&[Vec<u8>], &[Vec<u8>]) {
-        let collected = self.to_modem.collected.as_slice();
-        collected.split_at(self.before_farewell.min(collected.len()))
-    }
 }
 
 impl Direction {
@@ -62,11 +60,11 @@ impl Direction {
         Ok(())
     }
 
-    /// What became of the submission of that number.
-    pub fn settle(&mut self, number: u32, outcome: Outcome) {
-        if let Some(place) = place_of(number) {
+    /// Takes what became of a submission.
+    pub fn settle(&mut self, settled: Settled) {
+        if let Some(place) = place_of(settled.number) {
             if let Some(submission) = self.submissions.get_mut(place) {
-                submission.outcome = outcome;
+                submission.outcome = settled.outcome;
             }
         }
     }
@@ -82,6 +80,21 @@ impl Direction {
             .iter()
             .map(|submission| submission.outcome)
             .collect(heap)
+    }
+
+    /// All of it, with what became of each submission and how many blocks wait at the other end.
+    pub fn way<'a>(&'a self, outcomes: &'a [Outcome], there: usize) -> Way<'a>
+        ensures outcomes { result.outcomes.now ≡ outcomes.now }
+        ensures collected { result.collected.now ≡ self.now.collected.items }
+        ensures there { result.there ≡ there }
+        ensures passed { result.passed.now ≡ self.now.passed.items }
+    {
+        Way {
+            outcomes,
+            collected: self.collected.as_slice(),
+            there,
+            passed: self.passed.as_slice(),
+        }
     }
 
     /// The bytes of each submission, with the blocks of that order.

@@ -1,11 +1,10 @@
 // What the modem's calls answer.
 use super::{CHANNEL, Session, Task};
 use crate::passing::has_passed;
+use crate::settled::Settled;
 use crate::words::RuleWords;
 use anyhow::Result;
-use ends::name::Went;
 use ends::refusal::Refusal;
-use order::outcome::Outcome;
 use order::words::Kind;
 use tnc::answer::{Heard, Rule};
 
@@ -43,16 +42,8 @@ impl Session<'_> {
     fn modem_meets(&mut self, heard: Heard, wire: &[u8]) -> Result<()> {
         let fate = self.to_terminal.fate().words();
         println!(self.rt; "Modem, hears: {}{fate}", RuleWords(heard))?;
-        match heard.went {
-            Some(Went::Confirmed(block)) => {
-                let to_terminal = &mut self.record.to_terminal;
-                to_terminal.settle(block.number, Outcome::Confirmed);
-            }
-            Some(Went::Doubtful(block)) => {
-                let to_terminal = &mut self.record.to_terminal;
-                to_terminal.settle(block.number, Outcome::Doubtful);
-            }
-            None => {}
+        if let Some(went) = heard.went {
+            self.record.to_terminal.settle(Settled::of(went));
         }
         let mut came = self
             .to_terminal

@@ -2,11 +2,12 @@
 use super::{CHANNEL, Session, Task};
 use crate::cargo::Cargo;
 use crate::passing::has_passed;
+use crate::settled::Settled;
 use crate::words::{FallWords, HeardWords, RefusalWords, step_text};
 use anyhow::{Result, bail};
+use ends::name::Went;
 use ends::refusal::Refusal;
 use host::answer::{Fall, Heard, Stepped, Timed};
-use order::outcome::Outcome;
 use order::words::Kind;
 use store::refusal::Refusal as StoreRefusal;
 
@@ -41,6 +42,7 @@ impl Session<'_> {
             Timed::Repeated(sent) => self.terminal_sends("timer", "repeated", *sent, wire),
             Timed::Down(fall) => {
                 println!(self.rt; "Terminal, timer: {}", FallWords(fall))?;
+                self.terminal_settles(timed.went());
                 self.terminal_falls(fall)
             }
         }
@@ -65,14 +67,10 @@ impl Session<'_> {
     // The rule that a frame of the modem met.
     fn terminal_meets(&mut self, heard: &Heard) -> Result<()> {
         println!(self.rt; "Terminal, hears: {}", HeardWords(heard))?;
+        self.terminal_settles(heard.went());
         match heard {
             Heard::Received => Ok(self.tasks.push(Task::TerminalCollects)?),
-            Heard::Confirmed(block) => {
-                self.room = true;
-                let to_modem = &mut self.record.to_modem;
-                to_modem.settle(block.number, Outcome::Confirmed);
-                Ok(())
-            }
+            Heard::Confirmed(_) => Ok(()),
             Heard::Down(fall) => self.terminal_falls(fall),
             Heard::Stale
             | Heard::Opened
@@ -82,16 +80,21 @@ impl Session<'_> {
         }
     }
 
+    // A block that left the terminal's store is settled, and there is room again.
+    fn terminal_settles(&mut self, went: Option<Went>) {
+        if let Some(went) = went {
+            self.room = true;
+            self.record.to_modem.settle(Settled::of(went));
+        }
+    }
+
     // The link went down. A doubtful block of the order is to be submitted again, and the note of
     // another is to be written off.
     fn terminal_falls(&mut self, fall: &Fall) -> Result<()> {
         let Some(note) = &fall.doubt else {
             return Ok(());
         };
-        self.room = true;
-        let to_modem = &mut self.record.to_modem;
-        to_modem.settle(note.number(), Outcome::Doubtful);
-        match to_modem.cargo(note.number()) {
+        match self.record.to_modem.cargo(note.number()) {
             Some(cargo @ Cargo::Block(_)) => {
                 self.tasks.push(Task::TerminalSubmitsAgain(cargo))?;
             }
