@@ -1,4 +1,6 @@
 // What the sheet at the end is made of.
+ghost use Rattle.std.specs.Prelude.{◌≡◌, IfOk};
+
 use crate::own::FAREWELL;
 use crate::record::Record;
 use crate::there::There;
@@ -6,12 +8,10 @@ use order::sheet::{Sent, Sheet};
 use std::alloc::{AllocError, Global};
 
 /// The sheet of a run that was to bring that order.
-pub fn sheet(
-    heap: Global,
-    order: &[u8],
-    record: &Record,
-    there: There,
-) -> Result<Sheet, AllocError> {
+pub fn sheet(heap: Global, order: &[u8], record: &Record, there: There) -> Result<Sheet, AllocError>
+    ensures to_modem { IfOk result (λ s. s.to_modem.there ≡ there.at_modem) }
+    ensures to_terminal { IfOk result (λ s. s.to_terminal.there ≡ there.at_terminal) }
+{
     let Record {
         to_modem,
         to_terminal,
