@@ -5,7 +5,6 @@ use crate::passing::has_passed;
 use crate::settled::Settled;
 use crate::words::{FallWords, HeardWords, RefusalWords, step_text};
 use anyhow::{Result, bail};
-use ends::name::Went;
 use ends::refusal::Refusal;
 use host::answer::{Fall, Heard, Stepped, Timed};
 use order::words::Kind;
@@ -42,7 +41,7 @@ impl Session<'_> {
             Timed::Repeated(sent) => self.terminal_sends("timer", "repeated", *sent, wire),
             Timed::Down(fall) => {
                 println!(self.rt; "Terminal, timer: {}", FallWords(fall))?;
-                self.terminal_settles(timed.went());
+                self.terminal_settles(Settled::by_fall(fall));
                 self.terminal_falls(fall)
             }
         }
@@ -67,7 +66,7 @@ impl Session<'_> {
     // The rule that a frame of the modem met.
     fn terminal_meets(&mut self, heard: &Heard) -> Result<()> {
         println!(self.rt; "Terminal, hears: {}", HeardWords(heard))?;
-        self.terminal_settles(heard.went());
+        self.terminal_settles(Settled::by_rule(heard));
         match heard {
             Heard::Received => Ok(self.tasks.push(Task::TerminalCollects)?),
             Heard::Confirmed(_) => Ok(()),
@@ -81,10 +80,10 @@ impl Session<'_> {
     }
 
     // A block that left the terminal's store is settled, and there is room again.
-    fn terminal_settles(&mut self, went: Option<Went>) {
-        if let Some(went) = went {
+    fn terminal_settles(&mut self, settled: Option<Settled>) {
+        if let Some(settled) = settled {
             self.room = true;
-            self.record.to_modem.settle(Settled::of(went));
+            self.record.to_modem.settle(settled);
         }
     }
 
