@@ -1,5 +1,5 @@
 -- What the numbers of a comparison say, from the counts that they are made of.
-use Rattle.std.proofs.Common.{◌≡◌, ℕ, ◌+◌, ◌-◌, ◌≤◌, ◌↔◌, ◌==◌, ◌&&◌, List, length, count_by, IsTrue, sym, ◌∙◌, arith}
+use Rattle.std.proofs.Common.{◌≡◌, ℕ, ◌+◌, ◌-◌, ◌≤◌, ◌↔◌, ◌==◌, ◌&&◌, List, length, count_by, IsTrue, sym, ◌∙◌, subst, arith}
 use Rattle.std.proofs.lemmas.Bool.{and_parts, and_from, eqb-true, eq-eqb}
 use Rattle.order.specs.declared.comparison.Comparison.{Comparison}
 use Rattle.order.specs.Comparison.{number_of, is_surplus, is_strange, is_doubled, is_once, comparison, is_whole, CameAsExpected}
@@ -11,6 +11,11 @@ pub record Counts (expected collected : List (List ℕ)) (once lost over strange
   pub lost_is : lost ≡ number_of (is_surplus expected collected) expected
   pub over_is : over ≡ number_of (is_surplus collected expected) collected
   pub strange_is : strange ≡ count_by (is_strange expected) collected
+
+-- the same of lists that are equal
+pub counts_at : {es es' cs cs' : List (List ℕ)} {once lost over strange : ℕ} → es ≡ es' → cs ≡ cs' → Counts es cs once lost over strange → Counts es' cs' once lost over strange
+counts_at {es} {es'} {cs} {cs'} {once} {lost} {over} {strange} e d counts =
+    subst (λ (xs : List (List ℕ)). Counts xs cs' once lost over strange) e (subst (λ (ys : List (List ℕ)). Counts es ys once lost over strange) d counts)
 
 abbrev pub made : ℕ → ℕ → ℕ → ℕ → Comparison
 made once lost over strange = record { once = once; lost = lost; doubled = over - strange; strange = strange }

@@ -19,7 +19,7 @@ one_if_lt a b = elim (cases_lt a b) [
   | inr more ↦ inr (more, ap one_if (le-ltb a b more))
 ]
 
-same_or_not : (a b : List ℕ) → (a ≡ b) ⊎ ((bytes_eq a b ≡ false) × (bytes_eq b a ≡ false))
+pub same_or_not : (a b : List ℕ) → (a ≡ b) ⊎ ((bytes_eq a b ≡ false) × (bytes_eq b a ≡ false))
 same_or_not a b = elim (cases_Bool (bytes_eq a b)) [
   | inl are ↦ inl ((bytes_eq-Decides a b).0 are)
   | inr differ ↦ elim (cases_Bool (bytes_eq b a)) [
@@ -28,7 +28,7 @@ same_or_not a b = elim (cases_Bool (bytes_eq a b)) [
   ]
 ]
 
-equals_itself : (b : List ℕ) → bytes_eq b b ≡ true
+pub equals_itself : (b : List ℕ) → bytes_eq b b ≡ true
 equals_itself b = (bytes_eq-Decides b b).1 refl
 
 pub count_by-map : {A B : Type 0} (f : A → B) (p : B → Bool) (xs : List A) → count_by p (map f xs) ≡ count_by (λ x. p (f x)) xs
@@ -64,11 +64,11 @@ below_same p q (suc n) same =
     let last = ap one_if (same n (omega arith)) in
     omega (arith, below_more p n, below_more q n, rest, last)
 
-copies_more : (b : List ℕ) (xs : List (List ℕ)) (k : ℕ) → k < length xs → copies b (take (k + 1) xs) ≡ copies b (take k xs) + one_if (bytes_eq b (block_at xs k))
+pub copies_more : (b : List ℕ) (xs : List (List ℕ)) (k : ℕ) → k < length xs → copies b (take (k + 1) xs) ≡ copies b (take k xs) + one_if (bytes_eq b (block_at xs k))
 copies_more b xs k low = sum_by_more (λ (x : List ℕ). one_if (bytes_eq b x)) xs k [] low
 
 -- the block itself is a copy of it
-one_copy : (xs : List (List ℕ)) (k : ℕ) → k < length xs → copies (block_at xs k) (take (k + 1) xs) ≡ copies (block_at xs k) (take k xs) + 1
+pub one_copy : (xs : List (List ℕ)) (k : ℕ) → k < length xs → copies (block_at xs k) (take (k + 1) xs) ≡ copies (block_at xs k) (take k xs) + 1
 one_copy xs k low = copies_more (block_at xs k) xs k low ∙ ap (λ (t : Bool). copies (block_at xs k) (take k xs) + one_if t) (equals_itself (block_at xs k))
 
 -- WHERE ONE COPY MORE IS ALLOWED
@@ -254,7 +254,7 @@ all_once expected collected none = once_below expected collected none (length ex
 -- AT BLOCKS OF THE PROGRAM
 
 module _ {Z : Type 0} where
-  block_is : (vs : List (Vec ℕ Z)) (k : ℕ) (v : Vec ℕ Z) → k < length vs → v ≡ get_or vs k v → vec_items v ≡ block_at (bytes_of vs) k
+  pub block_is : (vs : List (Vec ℕ Z)) (k : ℕ) (v : Vec ℕ Z) → k < length vs → v ≡ get_or vs k v → vec_items v ≡ block_at (bytes_of vs) k
   block_is vs k v low at = ap vec_items at ∙ sym (get_or-map vec_items vs k v [] low)
 
   -- the tests at a place, from what was counted there

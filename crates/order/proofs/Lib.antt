@@ -3,3 +3,4 @@ mod Cutting
 mod Counting
 mod Compared
 mod Passing
+mod Tallying

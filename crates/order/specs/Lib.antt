@@ -5,4 +5,5 @@ pub mod LineRule
 pub mod Outcome
 pub mod Sheet
 pub mod Summary
+pub mod Tally
 pub mod Words

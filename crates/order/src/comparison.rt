@@ -1,8 +1,11 @@
 // What came of a list of blocks.
-ghost use Rattle.std.specs.Prelude.{◌≡◌, ◌+◌, ◌<◌, ◌↔◌, length, count_by, IsTrue};
+ghost use Rattle.std.specs.Prelude.{◌≡◌, ◌+◌, ◌<◌, ◌↔◌, length, count_by, IsTrue, IfOk};
 ghost use Rattle.order.specs.Blocks.{bytes_of};
 ghost use Rattle.order.specs.Comparison.{copies, number_of, is_surplus, is_once, is_strange};
 ghost use Rattle.order.specs.Comparison.{comparison, is_whole, CameAsExpected};
+
+use crate::tally::Tally;
+use std::alloc::{AllocError, Global};
 
 /// What became of the blocks that were expected, and what else came.
 #[derive(Clone, Copy, PartialEq, Eq, Debug)]
@@ -29,7 +32,8 @@ impl Comparison {
 }
 
 /// Compares the blocks that were expected with those that were collected, byte for byte and in
-/// whatever order.
+/// whatever order. It takes no memory, and walks a whole list at each block: `compare_in` is for
+/// long lists.
 pub fn compare(expected: &[Vec<u8>], collected: &[Vec<u8>]) -> Comparison
     ensures counts { result ≡ comparison (bytes_of expected.now) (bytes_of collected.now) }
     ensures balance { length collected.now + result.lost ≡
@@ -48,6 +52,35 @@ pub fn compare(expected: &[Vec<u8>], collected: &[Vec<u8>]) -> Comparison
         doubled: over - strange,
         strange,
     }
+}
+
+/// Compares as `compare` does, by tallies of both lists, so that one walk over each will do. Only
+/// memory can be wanting.
+pub fn compare_in(
+    heap: Global,
+    expected: &[Vec<u8>],
+    collected: &[Vec<u8>],
+) -> Result<Comparison, AllocError>
+    ensures counts { IfOk result
+        (λ c. c ≡ comparison (bytes_of expected.now) (bytes_of collected.now)) }
+    ensures balance { IfOk result (λ c. length collected.now + c.lost ≡
+        length expected.now + (c.doubled + c.strange)) }
+    ensures once { IfOk result (λ c. c.doubled ≡ 0 → c.once + c.lost ≡ length expected.now) }
+    ensures whole { IfOk result (λ c. IsTrue (is_whole c) ↔
+        CameAsExpected (bytes_of expected.now) (bytes_of collected.now)) }
+{
+    let expected = Tally::of(heap, expected)?;
+    let collected = Tally::of(heap, collected)?;
+    let came_once = expected.came_once(&collected);
+    let lost = expected.surplus(&collected);
+    let over = collected.surplus(&expected);
+    let strange = collected.strangers(&expected);
+    Ok(Comparison {
+        once: came_once,
+        lost,
+        doubled: over - strange,
+        strange,
+    })
 }
 
 // How many of the expected blocks came, and no more often than they were expected.
@@ -118,7 +151,6 @@ pub fn copies(blocks: &[Vec<u8>], block: &[u8]) -> usize
 #[cfg(test)]
 mod tests {
     use super::*;
-    use std::alloc::{AllocError, Global};
     use std::test::Fail;
 
     // Blocks of one byte each.
@@ -145,8 +177,9 @@ mod tests {
             ("ab", "", [0, 2, 0, 0]),
         ];
         for (expected, collected, [once, lost, doubled, strange]) in cases {
-            let expected = blocks(rt.alloc(), expected)?;
-            let collected = blocks(rt.alloc(), collected)?;
+            let heap = rt.alloc();
+            let expected = blocks(heap, expected)?;
+            let collected = blocks(heap, collected)?;
             let numbers = Comparison {
                 once,
                 lost,
@@ -154,6 +187,8 @@ mod tests {
                 strange,
             };
             assert_eq!(rt; compare(expected.as_slice(), collected.as_slice()), numbers);
+            let counted = compare_in(heap, expected.as_slice(), collected.as_slice())?;
+            assert_eq!(rt; counted, numbers);
         }
         Ok(())
     }

@@ -7,4 +7,5 @@ pub mod line_rule;
 pub mod outcome;
 pub mod sheet;
 pub mod summary;
+mod tally;
 pub mod words;

@@ -5,7 +5,7 @@ ghost use Rattle.order.specs.Sheet.{order_part_words, sheet_words, texts_part, w
 ghost use Rattle.order.specs.Sheet.{way_words};
 
 use crate::blocks::blocks;
-use crate::comparison::{Comparison, compare, copies};
+use crate::comparison::{Comparison, compare_in, copies};
 use crate::line_rule::{LineRule, Passed};
 use crate::outcome::{Outcome, outcome_count};
 use crate::summary::{OrderCame, TextsCame};
@@ -95,7 +95,7 @@ impl OrderPart {
     {
         let expected = blocks(heap, sent.order)?;
         let (before, after) = collected.split_at(before_farewell.min(collected.len()));
-        let came = compare(expected.as_slice(), before);
+        let came = compare_in(heap, expected.as_slice(), before)?;
         let farewells = copies(after, sent.farewell);
         let len = sent.order.len();
         Ok(OrderPart {
@@ -138,7 +138,7 @@ fn texts_part(
     ensures { IfOk result (λ t. t ≡ texts_part texts.now collected.now) }
 {
     Ok(TextsCame {
-        came: compare(texts, collected),
+        came: compare_in(heap, texts, collected)?,
         len: bytes_count(heap, collected)?,
     })
 }

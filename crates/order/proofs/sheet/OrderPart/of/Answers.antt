@@ -34,4 +34,4 @@ returns c =
     let front = c.split_at.ensures.front ∙ ap (λ k. take k all) c.min.ensures ∙ take_min n all in
     let back = c.split_at.ensures.back ∙ ap (λ k. drop k all) c.min.ensures ∙ drop_min n all in
     let listed = ap bytes_of c.as_slice.ensures.value ∙ c.in_ok-expected.ensures in
-    part_is c.args.sent.now all c.split_at.result.0.now c.split_at.result.1.now n c.copies-farewells.result c.compare-came.result (bytes_of c.as_slice.result.now) front back listed c.compare-came.ensures.counts c.copies-farewells.ensures
+    part_is c.args.sent.now all c.split_at.result.0.now c.split_at.result.1.now n c.copies-farewells.result c.in_ok-came.came (bytes_of c.as_slice.result.now) front back listed c.in_ok-came.ensures.counts c.copies-farewells.ensures
