@@ -1,4 +1,4 @@
 -- The lemmas on poll lists.
 pub mod ListLaws
-pub mod ListSeen
 pub mod ListLeft
+pub mod ListSeen

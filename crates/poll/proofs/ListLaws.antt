@@ -1,6 +1,6 @@
 -- The list of the waiting channels is good, ascends, and names exactly them; and how it is written, channel by channel.
-use Rattle.std.proofs.Common.{◌≡◌, ℕ, zero, suc, ◌+◌, ◌<◌, ◌≤◌, Bool, true, false, List, [], ◌∷◌, ◌++◌, length, get_or, drop, sym, ap, ◌∙◌, arith, cond, take, set}
-use Rattle.std.proofs.lemmas.List.{append-nil, at_drop_all, get_or-take, length-take, append_assoc, at_drop_more, take_more_set}
+use Rattle.std.proofs.Common.{◌≡◌, ℕ, zero, suc, ◌+◌, ◌<◌, ◌≤◌, Bool, true, false, cond, List, [], ◌∷◌, ◌++◌, length, get_or, take, drop, set, sym, ap, ◌∙◌, arith}
+use Rattle.std.proofs.lemmas.List.{append-nil, append_assoc, at_drop_more, at_drop_all, get_or-take, length-take, take_more_set}
 use Rattle.std.proofs.lemmas.Bool.{true≢false, false≢true}
 use Rattle.poll.specs.List.{Fresh, GoodList, listed_from, list_of, Names, Ascends}
 
@@ -54,13 +54,6 @@ good ws n k h =
           omega (arith, ascends ws 0 j k lt h, get_or-take k xs j 0 lt)),
     )
 
--- past the last channel the list is whole
-pub list_all : (xs : List ℕ) (ws : List Bool) (i : ℕ) (all : List ℕ) → length ws ≤ i → xs ++ listed_from i (drop i ws) ≡ all → xs ≡ all
-list_all xs ws i all l q =
-    sym (append-nil xs) ∙ ap (λ (ys : List ℕ). xs ++ ys) (sym (at_drop_all (listed_from i) ws i l)) ∙ q
-
--- Facts that no answer needs now; they stand for whoever builds on them.
-
 -- a channel that waits is written next
 pub list_more : (vs : List ℕ) (n v : ℕ) (ws : List Bool) (i : ℕ) (all : List ℕ) → n < length vs → i < length ws →
     get_or ws i false ≡ true → v ≡ i + 1 → take n vs ++ listed_from i (drop i ws) ≡ all →
@@ -82,3 +75,8 @@ list_same xs ws i all l t q =
     ap (λ (b : Bool). xs ++ cond b ((i + 1) ∷ rest) rest) (sym t)
     ∙ ap (λ (ys : List ℕ). xs ++ ys) (sym (at_drop_more (listed_from i) ws i false l))
     ∙ q
+
+-- past the last channel the list is whole
+pub list_all : (xs : List ℕ) (ws : List Bool) (i : ℕ) (all : List ℕ) → length ws ≤ i → xs ++ listed_from i (drop i ws) ≡ all → xs ≡ all
+list_all xs ws i all l q =
+    sym (append-nil xs) ∙ ap (λ (ys : List ℕ). xs ++ ys) (sym (at_drop_all (listed_from i) ws i l)) ∙ q

@@ -1,4 +1,3 @@
 -- The definitions that the contracts on channels and poll lists cite.
 pub mod Channel
-pub mod Short
 pub mod List

@@ -1,7 +1,6 @@
 -- Poll lists: which byte strings are good lists, what is left to poll, and how a list is written.
 use Rattle.std.specs.Prelude.{◌≡◌, ℕ, ◌+◌, ◌<◌, ◌≤◌, Bool, true, false, cond, List, [], ◌∷◌, map, length, take, drop, ◌≢◌, slice_index, slice_index_or}
 use Rattle.poll.specs.Channel.{channels}
-use Rattle.poll.specs.Short.{items_of}
 use Rattle.poll.specs.declared.channel.Channel.{Channel}
 use Rattle.poll.specs.declared.list.PollList.{PollList}
 use Rattle.poll.specs.declared.list.ListText.{ListText}
@@ -19,7 +18,7 @@ GoodList xs = GoodTo xs (length xs)
 
 -- the channels of a list left to poll, first to last
 abbrev pub polled : PollList → List ℕ
-polled l = map (λ (c : Channel). c.number) (drop l.next (items_of l.channels))
+polled l = map (λ (c : Channel). c.number) (drop l.next (take l.len l.channels))
 
 -- the list that names each waiting channel, from channel c on: its number and 1, ascending
 abbrev pub listed_from : ℕ → List Bool → List ℕ
@@ -31,7 +30,7 @@ list_of waiting = listed_from 0 waiting
 
 -- the bytes of a written list
 abbrev pub text_of : ListText → List ℕ
-text_of t = items_of t.values
+text_of t = take t.len t.values
 
 -- the list names exactly the waiting channels
 abbrev pub Names : List Bool → List ℕ → Type 0

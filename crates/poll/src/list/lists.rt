@@ -4,7 +4,6 @@ ghost use Rattle.poll.specs.List.{GoodList, polled, list_of, text_of, Names, Asc
 
 use super::{ListText, PollList};
 use crate::channel::{CHANNELS, Channel, Listed};
-use crate::short::ShortList;
 
 impl PollList {
     /// Reads a poll list: none unless each value is 1 to 64 and stands once.
@@ -12,7 +11,8 @@ impl PollList {
         ensures { MatchOption result (GoodList values.now → ⊥) (λ l. GoodList values.now × (map (λ (c : ℕ). c + 1) (polled l) ≡ values.now)) }
     {
         let mut seen = [false; CHANNELS];
-        let mut channels = ShortList::new(Channel::at(0));
+        let mut channels = [Channel::at(0); CHANNELS];
+        let mut len = 0;
         for value in values {
             let channel = Listed::new(*value)?.channel();
             let place = usize::from(channel.number());
@@ -20,9 +20,14 @@ impl PollList {
                 return None;
             }
             seen[place] = true;
-            channels.push(channel);
+            channels[len] = channel;
+            len += 1;
         }
-        Some(PollList { channels, next: 0 })
+        Some(PollList {
+            channels,
+            next: 0,
+            len,
+        })
     }
 
     /// The list with nothing left to poll.
@@ -30,8 +35,9 @@ impl PollList {
         ensures { polled result ≡ [] }
     {
         PollList {
-            channels: ShortList::new(Channel::at(0)),
+            channels: [Channel::at(0); CHANNELS],
             next: 0,
+            len: 0,
         }
     }
 
@@ -39,14 +45,18 @@ impl PollList {
     pub fn first(&self) -> Option<Channel>
         ensures { MatchOption result (polled self.now ≡ []) (λ c. polled self.now ≡ c.number ∷ drop 1 (polled self.now)) }
     {
-        self.channels.as_slice().get(self.next).copied()
+        if self.next < self.len {
+            Some(self.channels[self.next])
+        } else {
+            None
+        }
     }
 
     /// Takes the first channel off the list; an empty list stays as it is.
     pub fn drop_first(&mut self)
         ensures { polled self.new ≡ drop 1 (polled self.old) }
     {
-        if self.next < self.channels.as_slice().len() {
+        if self.next < self.len {
             self.next += 1;
         }
     }
@@ -60,19 +70,21 @@ impl ListText {
         ensures names { Names waiting.now (text_of result) }
         ensures ascends { Ascends (text_of result) }
     {
-        let mut values = ShortList::new(0);
+        let mut values = [0; CHANNELS];
+        let mut len = 0;
         for (place, waits) in waiting.iter().enumerate() {
             if *waits {
-                values.push(Channel::at(place).listed().value());
+                values[len] = Channel::at(place).listed().value();
+                len += 1;
             }
         }
-        ListText { values }
+        ListText { values, len }
     }
 
     /// The bytes that are written.
     pub fn bytes(&self) -> &[u8]
         ensures { result.now ≡ text_of self.now }
     {
-        self.values.as_slice()
+        &self.values[0..self.len]
     }
 }
