@@ -53,6 +53,7 @@ impl Form {
     }
 
     /// The payload that the bytes after a code byte carry; none where they carry none.
+    #[inline(always)]
     pub(crate) fn payload<'a>(self, rest: &'a [u8]) -> Option<&'a [u8]>
         ensures { Holds self rest.now result }
     {

@@ -82,6 +82,7 @@ impl<'a> Parsed<'a> for HostFrame<'a> {
         Direction::FromHost
     }
 
+    #[inline(always)]
     fn with(_address: Address, code: u8, payload: &'a [u8]) -> Option<HostFrame<'a>>
         ensures shows { option_map host_shows result ≡ shown_of FromHost code payload.now }
         ensures suits { IfSome result (host_suits _address) }
@@ -126,6 +127,7 @@ impl<'a> Parsed<'a> for TncFrame<'a> {
         Direction::FromTnc
     }
 
+    #[inline(always)]
     fn with(address: Address, code: u8, payload: &'a [u8]) -> Option<TncFrame<'a>>
         ensures shows { option_map tnc_shows result ≡ shown_of FromTnc code payload.now }
         ensures suits { IfSome result (tnc_suits address) }

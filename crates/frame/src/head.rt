@@ -48,6 +48,7 @@ impl Address {
 
 impl Head {
     // The head that a channel byte and a code byte make; none where the one is no channel byte.
+    #[inline(always)]
     pub(crate) fn of(channel: u8, code: u8) -> Option<Head>
         ensures { MatchOption result (ChannelByte channel → ⊥) (IsHeadOf channel code) }
     {

@@ -49,6 +49,7 @@ pub fn write<'a, F: Parsed<'a>>(head: Head, frame: F, wire: &mut [u8]) -> Result
 
 // The part of it that is the same for each type of frames, and so is told the code, and the form that goes with it: inside
 // `write` it is no shorter, and each way out has the bound on all wire forms to prove once more.
+#[inline(always)]
 fn lay(head: Head, code: u8, form: Form, payload: &[u8], wire: &mut [u8]) -> Result<usize, Refusal>
     requires { code < 8 }
     ensures { Lays form (framed head (shows code payload.now)) wire.old wire.new result }
