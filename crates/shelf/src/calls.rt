@@ -1,17 +1,18 @@
 // What the shelf does at each call.
-ghost use Rattle.std.specs.Prelude.{◌≡◌, ◌==◌, Err, MatchResult};
+ghost use Rattle.std.specs.Prelude.{◌≡◌, ◌≤◌, ◌==◌, length, Err, MatchResult};
 ghost use Rattle.std.specs.List.{position};
-ghost use Rattle.store.specs.Meaning.{empty};
+ghost use Rattle.frame.specs.Frame.{longest_block};
+ghost use Rattle.store.specs.Meaning.{plain, empty};
 ghost use Rattle.store.specs.Calls.{StoreLaws};
 ghost use Rattle.store.specs.Rules.{first_waiting};
 ghost use Rattle.store.specs.Arrival.{IsFirst};
 ghost use Rattle.shelf.specs.Size.{place_count};
-ghost use Rattle.shelf.specs.Shown.{entry, blank, entries, shown};
+ghost use Rattle.shelf.specs.Shown.{block_of, entry, blank, entries, shown};
 
 use crate::{PLACES, Place, Shelf};
 use arrayvec::ArrayVec;
 use frame::form::BLOCK;
-use poll::channel::Channel;
+use poll::channel::{Channel, LAST_CHANNEL};
 use store::refusal::Refusal;
 use store::{Store, checks};
 
@@ -22,8 +23,34 @@ impl Default for Place {
     fn default() -> Place {
         Place {
             channel: Channel::new(0).unwrap(),
-            block: ArrayVec::from([0; BLOCK]),
+            len: BLOCK,
+            bytes: [0; BLOCK],
         }
+    }
+}
+
+impl Place {
+    // A place that holds the block.
+    fn with(channel: Channel, block: &[u8]) -> Place
+        requires some { 1 ≤ length block.now }
+        requires short { length block.now ≤ longest_block }
+        ensures { entry result ≡ record { channel = channel.number; block = plain block.now } }
+    {
+        let len = block.len();
+        let mut bytes = [0; BLOCK];
+        bytes[..len].copy_from_slice(block);
+        Place {
+            channel,
+            len,
+            bytes,
+        }
+    }
+
+    // Its block.
+    fn block(&self) -> &[u8]
+        ensures { result.now ≡ block_of self.now }
+    {
+        &self.bytes[..self.len]
     }
 }
 
@@ -66,26 +93,29 @@ impl Store for Shelf {
         if self.places.is_full() {
             return Err(Refusal::Full);
         }
-        let block = ArrayVec::try_from(block).unwrap();
-        self.places.push(Place { channel, block });
+        self.places.push(Place::with(channel, block));
         Ok(())
     }
 
     fn copy_first(&self, channel: u8, buffer: &mut [u8]) -> Result<usize, Refusal> {
         checks::buffer(buffer)?;
         let i = self.first_on(channel)?;
-        let block = self.places[i].block.as_slice();
+        let block = self.places[i].block();
         buffer[..block.len()].copy_from_slice(block);
         Ok(block.len())
     }
 
     fn drop_first(&mut self, channel: u8) -> Result<(), Refusal> {
         let i = self.first_on(channel)?;
-        self.places.remove(i);
+        self.places.as_mut_slice().copy_within(i + 1.., i);
+        self.places.truncate(self.places.len() - 1);
         Ok(())
     }
 
     fn count(&self, channel: u8) -> usize {
+        if channel > LAST_CHANNEL {
+            return 0;
+        }
         self.places
             .iter()
             .filter(|place| place.channel.number() == channel)

@@ -2,9 +2,8 @@
 // what the shelf does at each call stands in `calls`.
 #![tactic(auto)]
 
-ghost use Rattle.std.specs.Prelude.{◌≤◌};
+ghost use Rattle.std.specs.Prelude.{◌≡◌, ◌≤◌, length};
 ghost use Rattle.frame.specs.Frame.{longest_block};
-ghost use Rattle.arrayvec.specs.ArrayVec.{array_vec_len};
 
 use arrayvec::ArrayVec;
 use frame::form::BLOCK;
@@ -15,13 +14,16 @@ pub mod calls;
 /// How many places the shelf has.
 pub const PLACES: usize = 16;
 
-/// A block on the shelf, and the channel that it waits on.
-#[derive(Drop)]
+/// A block on the shelf, and the channel that it waits on. (The kit's `ArrayVec` is not `Copy`, so
+/// the bytes are an array with its length.)
+#[derive(Clone, Copy)]
 pub struct Place {
     channel: Channel,
-    block: ArrayVec<u8, BLOCK>,
-    ghost some: { 1 ≤ array_vec_len block },
-    ghost short: { array_vec_len block ≤ longest_block },
+    len: usize,
+    bytes: [u8; BLOCK],
+    ghost some: { 1 ≤ len },
+    ghost short: { len ≤ longest_block },
+    ghost whole: { length bytes ≡ longest_block },
 }
 
 /// The shelf: a store with places of its own, in order of arrival.

@@ -20,10 +20,9 @@ pub returns : goal.returns
 returns c =
     let s = c.args.self.now in
     let room : length s.places.items ≡ place_count → ⊥ = search rules in
-    let bytes : c.unwrap-block.result.items ≡ c.args.block.now = search rules in
     let p =
     put_granted (entries s) _ place_count c.args.channel (plain c.args.block.now) (storable s) c.in_ok-channel.ensures.1 c.in_ok-block.ensures.0 c.in_ok-block.ensures.1 (λ e. room (sym (length-map s.places.items entry) ∙ e))
     (ap (map entry) c.push.ensures.items ∙ map_push entry s.places.items _
-    ∙ ap (λ (b : List ℕ). entries s ++ record { channel = c.in_ok-channel.channel.number; block = plain b } ∷ []) bytes
+    ∙ ap (λ (x : Entry). entries s ++ x ∷ []) c.with.ensures
     ∙ ap (λ (n : ℕ). entries s ++ record { channel = n; block = plain c.args.block.now } ∷ []) c.in_ok-channel.ensures.0) in
     record { answer = p.0; after = p.1 }
