@@ -13,6 +13,7 @@ ghost use Rattle.strip.specs.Shown.{area_of, records, shown, FirstOn};
 use crate::bytes::write;
 use crate::records::{Record, Records};
 use crate::{HEAD, RECORD, Strip};
+use poll::channel::LAST_CHANNEL;
 use store::refusal::Refusal;
 use store::{Store, checks};
 
@@ -103,6 +104,9 @@ impl<'a> Store for Strip<'a> {
     }
 
     fn count(&self, channel: u8) -> usize {
+        if channel > LAST_CHANNEL {
+            return 0;
+        }
         self.records()
             .filter(|record| record.channel == channel)
             .count()
