@@ -5,7 +5,7 @@ use poll::channel::Channel;
 pub mod writing;
 
 /// What a frame of the host asks.
-#[derive(Drop)]
+#[derive(Clone, Copy)]
 pub enum Asked {
     GeneralPoll,
     ChannelPoll(Channel),

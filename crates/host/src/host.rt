@@ -19,7 +19,7 @@ pub mod submitting;
 pub mod timing;
 
 /// Where the host stands.
-#[derive(Drop)]
+#[derive(Clone, Copy)]
 pub enum State {
     Fresh,
     /// The reset is on its way; so many repeats since that open.

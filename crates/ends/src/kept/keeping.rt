@@ -6,7 +6,6 @@ ghost use Rattle.frame.specs.Frame.{Carries};
 ghost use Rattle.ends.specs.Kept.{block_of, first_of};
 
 use super::KeptBlock;
-use arrayvec::ArrayVec;
 use frame::form::BLOCK;
 use poll::channel::Channel;
 use store::Store;
@@ -16,10 +15,9 @@ impl KeptBlock {
     pub fn first<O: Store>(channel: Channel, out: &O) -> Option<KeptBlock>
         ensures { option_map block_of result ≡ first_of ((O.Store.meaning out.now).waiting channel.number) }
     {
-        let mut bytes = ArrayVec::from([0; BLOCK]);
-        let len = out.copy_first(channel.number(), bytes.as_mut_slice()).ok()?;
-        bytes.truncate(len);
-        Some(KeptBlock { bytes })
+        let mut bytes = [0; BLOCK];
+        let len = out.copy_first(channel.number(), &mut bytes).ok()?;
+        Some(KeptBlock { len, bytes })
     }
 
     /// The bytes of the block, 1 to 256, which a frame carries.
@@ -27,6 +25,6 @@ impl KeptBlock {
         ensures value { result.now ≡ (block_of self.now).bytes }
         ensures fits { Carries Counted (block_of self.now).bytes }
     {
-        self.bytes.as_slice()
+        &self.bytes[..self.len]
     }
 }

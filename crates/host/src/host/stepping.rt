@@ -20,7 +20,7 @@ use store::Store;
 use wire::writer::WIRE;
 
 /// What is asked next, and by which rule.
-#[derive(Drop)]
+#[derive(Clone, Copy)]
 pub struct Picked {
     rule: StepRule,
     asked: Asked,
