@@ -54,8 +54,8 @@ pub fn compare(expected: &[Vec<u8>], collected: &[Vec<u8>]) -> Comparison
     }
 }
 
-/// Compares as `compare` does, by tallies of both lists, so that one walk over each will do. Only
-/// memory can be wanting.
+/// Compares as `compare` does, by tallies of both lists, so that no block asks for a walk over a
+/// list. Only memory can be wanting.
 pub fn compare_in(
     heap: Global,
     expected: &[Vec<u8>],
