@@ -1,7 +1,7 @@
 // Poll lists: the list that a modem writes, and the list left to poll that a terminal reads from it.
 // The methods stand in `lists`, since their clauses name these types. Each is an array with its
-// length: lists are copied, and the kit's `ArrayVec` is not `Copy`. A type for both, to which an item
-// is pushed, writes the length to memory at each item, and reading a list takes longer.
+// length: lists are copied, and the kit's `ArrayVec` is not `Copy`. A type for both, to which an
+// item is pushed, writes the length to memory at each item, and reading a list takes longer.
 ghost use Rattle.std.specs.Prelude.{◌≤◌};
 ghost use Rattle.poll.specs.Channel.{channels as channel_count};
 

@@ -7,8 +7,7 @@ use crate::reader::BODY;
 use std::marker::Model;
 
 /// The bytes so far, and the register over them. An array and a length, and not the kit's `ArrayVec`: the `clear` of that
-/// writes over the used part, and each byte of the line is to cost the same. Nor poll's `ShortList`: that
-/// would have to be public, of any length, and would stand in this type with the register beside it, no plainer.
+/// writes over the used part, and each byte of the line is to cost the same.
 #[derive(Drop)]
 pub struct Body {
     bytes: [u8; BODY],
